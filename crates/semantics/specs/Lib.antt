@@ -1,0 +1,8 @@
+-- The meaning, lowest first: shapes, what an operation does to an array, expressions, programs.
+pub mod Shapes
+pub mod Broadcast
+pub mod Parts
+pub mod Orders
+pub mod Arrays
+pub mod Values
+pub mod Programs
