@@ -1,0 +1,70 @@
+-- A place of a shape, index by index, and its number.
+use mathlib.Core.Path.{_≡_, refl, ap, _∙_}
+use mathlib.Core.List.{List, [], _∷_}
+use Prim.Native.Nat.{ℕ, zero, suc, _+_, _*_, _<_, _/_, _%_}
+use native.Mathlib.Nat.{mul-comm, div-add-mod'}
+use native.Mathlib.Omega.{arith}
+use lib.ListN.{length, getD}
+use Rattle.std.proofs.shelf.Bits.{mul-add-lt, div-mul-add, mod-mul-add, div-below, mod-below}
+use Rattle.semantics.specs.Shapes.{size, In, flat, unflat}
+use Rattle.semantics.specs.PlaceLaws.{Places-numbered}
+
+-- the same as `In`, for proofs by induction
+pub data Inside : List ℕ → List ℕ → Type 0 where
+  none : Inside [] []
+  more : {d i : ℕ} {ds is : List ℕ} → i < d → Inside ds is → Inside (d ∷ ds) (i ∷ is)
+
+pub inside : (s is : List ℕ) → In s is → Inside s is
+unfolding In
+inside [] [] h = none
+inside [] (i ∷ is) h = absurd (omega arith)
+inside (d ∷ ds) [] h = absurd (omega arith)
+inside (d ∷ ds) (i ∷ is) h = more (h .1 0 (omega arith)) (inside ds is (omega arith, λ k l. h .1 (suc k) (omega arith)))
+
+pub in-more : (d i : ℕ) (ds is : List ℕ) → i < d → In ds is → In (d ∷ ds) (i ∷ is)
+unfolding In
+in-more d i ds is l h = (ap suc (h .0), below)
+  where
+    below : (k : ℕ) → k < suc (length ds) → getD (i ∷ is) k 0 < getD (d ∷ ds) k 0
+    below zero m = l
+    below (suc k) m = h .1 k (omega arith)
+
+pub in-from : {s is : List ℕ} → Inside s is → In s is
+unfolding In
+in-from none = (refl, λ k l. absurd (omega arith))
+in-from (more {d} {i} {ds} {is} l h) = in-more d i ds is l (in-from h)
+
+-- a shape with a number below its size has places along its later axes
+some-below : (n d m : ℕ) → n < d * m → 0 < m
+some-below n d zero h = absurd (omega arith)
+some-below n d (suc m) h = omega arith
+
+pub inside-unflat : (s : List ℕ) (n : ℕ) → n < size s → Inside s (unflat s n)
+unfolding size unflat
+inside-unflat [] n h = none
+inside-unflat (d ∷ ds) n h =
+    let p = some-below n d (size ds) h in
+    more (div-below n (size ds) d p h) (inside-unflat ds (n % size ds) (mod-below n (size ds) p))
+
+pub flat-unflat : (s : List ℕ) (n : ℕ) → n < size s → flat s (unflat s n) ≡ n
+unfolding size flat unflat
+flat-unflat [] n h = omega arith
+flat-unflat (d ∷ ds) n h =
+    let p = some-below n d (size ds) h in
+    rw (flat-unflat ds (n % size ds) (mod-below n (size ds) p)) (div-add-mod' n (size ds))
+
+pub flat-below : {s is : List ℕ} → Inside s is → flat s is < size s
+unfolding size flat
+flat-below none = omega arith
+flat-below (more {d} {i} {ds} {is} l h) = omega (arith, mul-add-lt i (size ds) (flat ds is) d l (flat-below h))
+
+pub unflat-flat : {s is : List ℕ} → Inside s is → unflat s (flat s is) ≡ is
+unfolding size flat unflat
+unflat-flat none = refl
+unflat-flat (more {d} {i} {ds} {is} l h) =
+    let b = flat-below h in
+    rw (div-mul-add i (size ds) (flat ds is) b, mod-mul-add i (size ds) (flat ds is) b, unflat-flat h)
+
+pub places-numbered : Places-numbered
+places-numbered s is n =
+    (λ h. (in-from (inside-unflat s n h), flat-unflat s n h), λ h. (flat-below (inside s is h), unflat-flat (inside s is h)))

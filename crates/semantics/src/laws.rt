@@ -1,0 +1,2 @@
+// Laws of the meaning. A function here computes nothing: its contract is a theorem.
+pub mod places;
