@@ -1,1 +1,3 @@
+pub mod Axes
+pub mod Parts
 pub mod Places

@@ -7,3 +7,4 @@ pub mod Arrays
 pub mod Values
 pub mod Programs
 pub mod PlaceLaws
+pub mod PartLaws

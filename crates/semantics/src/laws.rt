@@ -1,2 +1,3 @@
 // Laws of the meaning. A function here computes nothing: its contract is a theorem.
+pub mod parts;
 pub mod places;
