@@ -8,3 +8,4 @@ pub mod Values
 pub mod Programs
 pub mod PlaceLaws
 pub mod PartLaws
+pub mod OrderLaws

@@ -1,3 +1,4 @@
 // Laws of the meaning. A function here computes nothing: its contract is a theorem.
+pub mod orders;
 pub mod parts;
 pub mod places;
