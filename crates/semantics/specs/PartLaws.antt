@@ -30,6 +30,7 @@ part-of-part p q =
       many = p .many;
     }
 
+-- the same along each axis
 unfoldable pub parts-of-parts : List Part → List Part → List Part
 unfolding part-of-part
 parts-of-parts [] qs = []
@@ -43,6 +44,7 @@ Part-of-part =
     (parts-fit (parts-of-parts ps qs) s ≡ true) × (part-shape (parts-of-parts ps qs) ≡ part-shape ps) ×
     ((is : List ℕ) → In (part-shape ps) is → places-of (parts-of-parts ps qs) is ≡ places-of qs (places-of ps is))
 
+-- a part of a part of an array is alike that one part of the array
 abbrev pub Part-of-part-alike : Type 0 → Type 0
 Part-of-part-alike Num =
     (ps qs : List Part) (a : Array Num) → parts-fit qs (a .shape) ≡ true → parts-fit ps (part-shape qs) ≡ true →
