@@ -1,0 +1,5 @@
+pub mod Words
+pub mod ShapeOf
+pub mod Format
+pub mod Headers
+pub mod Inputs
