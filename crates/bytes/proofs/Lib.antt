@@ -1,3 +1,4 @@
 pub mod Sizes
 pub mod Formats
 pub mod Rows
+pub mod Writings

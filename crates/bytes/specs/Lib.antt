@@ -3,3 +3,4 @@ pub mod ShapeOf
 pub mod Format
 pub mod Headers
 pub mod Inputs
+pub mod Writing

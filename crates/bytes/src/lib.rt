@@ -4,3 +4,4 @@ pub mod header;
 pub mod inputs;
 pub mod shape;
 pub mod words;
+pub mod writing;
