@@ -1,0 +1,2 @@
+// A program as steps: one step a mark of its text, in prefix order, in a lent slice of words.
+pub mod step;
