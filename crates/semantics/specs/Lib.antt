@@ -6,3 +6,4 @@ pub mod Orders
 pub mod Arrays
 pub mod Values
 pub mod Programs
+pub mod Examples
