@@ -6,4 +6,5 @@ pub mod Orders
 pub mod Arrays
 pub mod Values
 pub mod Programs
+pub mod RunLaws
 pub mod Examples

@@ -1,0 +1,22 @@
+ghost use Rattle.semantics.specs.RunLaws.{Names-within, Shown-stays, Ended-stays};
+
+// Names never hold more than the places there are.
+pub fn names_within<T>() -> u8
+    ensures { λ _. ⌜ Names-within T ⌝ }
+{
+    0
+}
+
+// What was shown stays shown.
+pub fn shown_stays<T>() -> u8
+    ensures { λ _. ⌜ Shown-stays T ⌝ }
+{
+    0
+}
+
+// Nothing happens after a fault.
+pub fn ended_stays<T>() -> u8
+    ensures { λ _. ⌜ Ended-stays T ⌝ }
+{
+    0
+}
