@@ -1,3 +1,4 @@
 pub mod Examples
 pub mod Picks
 pub mod Runs
+pub mod Bounds

@@ -39,7 +39,7 @@ pub record Since {Num : Type 0} (t u : State Num) : Type 0 where
 pub since-same : {Num : Type 0} (t u : State Num) → u .shown ≡ t .shown → Since t u
 since-same t u e = record { shown = record { more = []; is = e ∙ sym (append-nil (t .shown)) } }
 
-since-trans : {Num : Type 0} {t u v : State Num} → Since t u → Since u v → Since t v
+pub since-trans : {Num : Type 0} {t u v : State Num} → Since t u → Since u v → Since t v
 since-trans h k = record { shown = begins-trans (h .shown) (k .shown) }
 
 since-pick : {Num : Type 0} {t : State Num} (b : Bool) (u v : State Num) → Since t u → Since t v → Since t (pick b u v)

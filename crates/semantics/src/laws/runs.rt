@@ -1,4 +1,4 @@
-ghost use Rattle.semantics.specs.RunLaws.{Names-within, Shown-stays, Ended-stays};
+ghost use Rattle.semantics.specs.RunLaws.{Names-within, Shown-stays, Ended-stays, Places-only-bound};
 
 // Names never hold more than the places there are.
 pub fn names_within<T>() -> u8
@@ -17,6 +17,13 @@ pub fn shown_stays<T>() -> u8
 // Nothing happens after a fault.
 pub fn ended_stays<T>() -> u8
     ensures { λ _. ⌜ Ended-stays T ⌝ }
+{
+    0
+}
+
+// Places only bound what a program does.
+pub fn places_only_bound<T>() -> u8
+    ensures { λ _. ⌜ Places-only-bound T ⌝ }
 {
     0
 }
