@@ -1,15 +1,15 @@
 -- Places only bound: with more of them a value is the same or was out of places, and so is a run.
-use mathlib.Core.Path.{_≡_, refl, sym, _∙_, ap}
-use mathlib.Core.Bool.{Bool, true, false, _&&_}
-use mathlib.Core.List.{List, [], _∷_, _++_}
+use mathlib.Core.Path.{_≡_, refl}
+use mathlib.Core.Bool.{Bool}
+use mathlib.Core.List.{List}
 use Prim.Native.Nat.{ℕ, zero, suc, _+_, _-_, _≤_}
 use native.Mathlib.Omega.{arith}
-use lib.Dec.{ltb, leb, eqb}
-use lib.ListN.{length, getD, set}
+use lib.Dec.{leb, eqb}
+use lib.ListN.{getD}
 use Rattle.std.proofs.shelf.Tests.{leb-true, le-leb}
 use Rattle.semantics.specs.Shapes.{pick, size}
-use Rattle.semantics.specs.Parts.{Part, parts-fit}
-use Rattle.semantics.specs.Arrays.{Array, Numbers, constant-array, count-array, can-put}
+use Rattle.semantics.specs.Parts.{Part}
+use Rattle.semantics.specs.Arrays.{Array, Numbers, constant-array, count-array}
 use Rattle.semantics.specs.Values.{Expr, name, input, constant, count, each, both, choose, fold, scan, shape-to, turn, part, join, rows, Cell, none, some, Value, fault, val, Sizes, then, made, held, given, value}
 use Rattle.semantics.specs.Programs.{Program, end, be, put, show, again, in-names, State, becomes, is-put, is-shown, stopped, times, value-in, run, begin, shows, ends}
 use Rattle.semantics.specs.RunLaws.{Begins, resized, Places-only-bound}
@@ -52,7 +52,7 @@ module _ {Num : Type 0} (s : Sizes) (l : ℕ) (z : Numbers Num) (ins : List (Arr
   value-sooner ns n m (input k) h = sooner-held n m (given ins k) h
   value-sooner ns n m (constant x) h = sooner-made n m 0 (constant-array x) h
   value-sooner ns n m (count x) h = sooner-made n m 0 (count-array z x) h
-  value-sooner ns n m (each k e) h = let i = value-sooner ns n m e h in search sooners
+  value-sooner ns n m (each k e) h = sooner-then _ _ (value-sooner ns n m e h) (λ a c. search sooners)
   value-sooner ns n m (both k e f) h =
       sooner-then _ _ (value-sooner ns n m e h) (λ a c. sooner-then _ _ (value-sooner ns (n - c) (m - c) f (omega arith)) (λ b d. search sooners))
   value-sooner ns n m (choose e f g) h =

@@ -19,5 +19,9 @@ pub pick-two : {A B : Type 0} (R : A → B → Type 0) (b : Bool) {x y : A} {v w
 pick-two R true p q = p
 pick-two R false p q = q
 
+pub pick-two-told : {A : Type 0} (R : A → A → Type 0) (b : Bool) {x y v w : A} → (b ≡ true → R x v) → (b ≡ false → R y w) → R (pick b x y) (pick b v w)
+pick-two-told R true p q = p refl
+pick-two-told R false p q = q refl
+
 pub pick-other : {A : Type 0} (n m : ℕ) (x y : A) → (n ≡ m → ⊥) → pick (eqb n m) x y ≡ y
 pick-other n m x y h = rw (ne-eqb n m h)

@@ -1,16 +1,16 @@
 -- What names hold stays within the places, what was shown stays, and nothing happens after a fault.
 use mathlib.Core.Path.{_≡_, refl, sym, _∙_, ap}
-use mathlib.Core.Bool.{Bool, true, false, _&&_}
+use mathlib.Core.Bool.{Bool}
 use mathlib.Core.List.{List, [], _∷_, _++_, append-assoc, append-nil}
 use Prim.Native.Nat.{ℕ, zero, suc, _+_, _-_, _≤_}
 use native.Mathlib.Omega.{arith}
 use lib.Dec.{ltb, leb, eqb}
-use lib.ListN.{length, getD, set}
+use lib.ListN.{getD, set}
 use Rattle.std.proofs.shelf.Tests.{leb-true}
 use Rattle.semantics.specs.Shapes.{pick, size}
 use Rattle.semantics.specs.Parts.{Part, parts-fit}
 use Rattle.semantics.specs.Arrays.{Array, Numbers, can-put, put-array}
-use Rattle.semantics.specs.Values.{Expr, name, input, constant, count, each, both, choose, fold, scan, shape-to, turn, part, join, rows, Cell, none, some, Value, fault, val, Sizes, then, made, held, given, value}
+use Rattle.semantics.specs.Values.{Expr, name, input, constant, count, each, both, choose, fold, scan, shape-to, turn, part, join, rows, Cell, none, some, Value, fault, val, Sizes, then, made, held, value}
 use Rattle.semantics.specs.Programs.{Program, end, be, put, show, again, cell-size, in-names, State, listed, becomes, is-put, is-shown, times, value-in, run}
 use Rattle.semantics.specs.RunLaws.{Begins, Names-within, Shown-stays, Ended-stays}
 use Rattle.semantics.proofs.Picks.{pick-both, pick-told, pick-other}

@@ -11,9 +11,8 @@ use Rattle.semantics.specs.declared.operation.Unary.the-variants.{Neg, Abs, Sq
 use Rattle.semantics.specs.declared.operation.Binary.{Binary}
 use Rattle.semantics.specs.declared.operation.Binary.the-variants.{Add, Sub, Mul, Div, Less, Same, Least, Most}
 use Rattle.semantics.specs.Shapes.{pick}
-use Rattle.semantics.specs.Parts.{Part}
 use Rattle.semantics.specs.Arrays.{Numbers}
-use Rattle.semantics.specs.Values.{Expr, name, constant, count, both, fold, shape-to, rows, Sizes}
+use Rattle.semantics.specs.Values.{name, constant, count, both, fold, shape-to, rows, Sizes}
 use Rattle.semantics.specs.Programs.{Program, end, be, put, show, Shown, shows, ends}
 
 -- the whole numbers: 1 for true and 0 for false, the whole root, the quotient toward 0

@@ -6,5 +6,6 @@ pub mod Orders
 pub mod Arrays
 pub mod Values
 pub mod Programs
+pub mod ValueLaws
 pub mod RunLaws
 pub mod Examples

@@ -1,5 +1,5 @@
--- What holds of every run, from any state: what names hold stays within the places there are, what was shown stays shown,
--- and nothing happens after a fault.
+-- What holds of every run: names hold no more than the places there are, what was shown stays shown, nothing happens after a
+-- fault, and more places change nothing but where they ran out.
 use mathlib.Core.Path.{_≡_}
 use mathlib.Core.List.{List, _++_}
 use Prim.Native.Nat.{ℕ, _≤_}
