@@ -4,3 +4,10 @@ pub mod Orders
 pub mod Parts
 pub mod Places
 pub mod Strides
+pub mod Examples
+pub mod Picks
+pub mod Runs
+pub mod Bounds
+pub mod Inside
+pub mod Likes
+pub mod LikeRuns

@@ -9,3 +9,6 @@ pub mod Programs
 pub mod PlaceLaws
 pub mod PartLaws
 pub mod OrderLaws
+pub mod ValueLaws
+pub mod RunLaws
+pub mod Examples
