@@ -1,7 +1,6 @@
 -- The steps of an expression and of a program, in prefix order, with what follows them.
 use mathlib.Core.List.{List, [], _∷_}
 use Prim.Native.Nat.{ℕ}
-use lib.ListN.{length}
 use Rattle.semantics.specs.Parts.{Part}
 use Rattle.semantics.specs.Values.{Expr, name, input, constant, count, each, both, choose, fold, scan, shape-to, turn, part, join, rows}
 use Rattle.semantics.specs.Programs.{Program, end, be, put, show, again}
@@ -27,9 +26,9 @@ spell (both k e f) r = Both k ∷ spell e (spell f r)
 spell (choose e f g) r = Choose ∷ spell e (spell f (spell g r))
 spell (fold k x e) r = Fold k x ∷ spell e r
 spell (scan k x e) r = Scan k x ∷ spell e r
-spell (shape-to t e) r = Shape (length t) ∷ items t (spell e r)
-spell (turn os e) r = Turn (length os) ∷ items os (spell e r)
-spell (part ps e) r = Cut (length ps) ∷ slices ps (spell e r)
+spell (shape-to t e) r = Shape ∷ items t (spell e r)
+spell (turn os e) r = Turn ∷ items os (spell e r)
+spell (part ps e) r = Cut ∷ slices ps (spell e r)
 spell (join x e f) r = Join x ∷ spell e (spell f r)
 spell (rows e f) r = Rows ∷ spell e (spell f r)
 
@@ -37,6 +36,6 @@ unfoldable pub spell-program : Program ℕ → List Step → List Step
 unfolding spell slices
 spell-program end r = r
 spell-program (be k e p) r = Let k ∷ spell e (spell-program p r)
-spell-program (put k ps e p) r = Put k (length ps) ∷ slices ps (spell e (spell-program p r))
+spell-program (put k ps e p) r = Put k ∷ slices ps (spell e (spell-program p r))
 spell-program (show e p) r = Show ∷ spell e (spell-program p r)
 spell-program (again n b p) r = Again n ∷ spell-program b (End ∷ spell-program p r)

@@ -1,5 +1,6 @@
 // One step of a program. Steps stand in prefix order: an operation, then the items of its brackets, then its
-// operands; a statement, then its expression; `again`, then its lines, then `End`.
+// operands; a statement, then its expression; `again`, then its lines, then `End`. The items end where an
+// expression begins, so they are not counted.
 use semantics::operation::Binary;
 use semantics::operation::Unary;
 
@@ -7,9 +8,9 @@ use semantics::operation::Unary;
 pub enum Step {
     // the end of an `again`
     End,
-    // statements: the name; the name and how many items the brackets have; how often
+    // statements: the name; the name; -; how often
     Let(u32),
-    Put(u32, u32),
+    Put(u32),
     Show,
     Again(u32),
     // arrays without operands
@@ -17,15 +18,15 @@ pub enum Step {
     Input(u32),
     Constant(u64),
     Count(u32),
-    // operations: which, along which axis, how many items the brackets have
+    // operations: which, along which axis
     Each(Unary),
     Both(Binary),
     Choose,
     Fold(Binary, u32),
     Scan(Binary, u32),
-    Shape(u32),
-    Turn(u32),
-    Part(u32),
+    Shape,
+    Turn,
+    Part,
     Join(u32),
     Rows,
     // items of brackets: a length or an axis; from, backward, step, how many
