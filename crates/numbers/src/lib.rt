@@ -3,6 +3,7 @@
 mod arithmetic;
 mod compare;
 mod dispatch;
+mod laws;
 mod nan;
 mod whole;
 
@@ -23,6 +24,7 @@ pub use compare::truth;
 pub use dispatch::binary;
 pub use dispatch::empty_fold;
 pub use dispatch::unary;
+pub use laws::patterns_stands;
 pub use nan::canonical;
 pub use whole::index;
 pub use whole::of_whole;

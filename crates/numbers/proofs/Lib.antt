@@ -1,0 +1,3 @@
+-- Laws that later crates cite: which operation each field of the record is, and that all of them give patterns.
+pub mod Fields
+pub mod Written
