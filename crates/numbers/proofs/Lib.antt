@@ -1,3 +1,4 @@
 -- Laws that later crates cite: which operation each field of the record is, and that all of them give patterns.
 pub mod Fields
 pub mod Written
+pub mod Indexed

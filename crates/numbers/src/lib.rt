@@ -5,6 +5,8 @@ mod compare;
 mod dispatch;
 mod laws;
 mod nan;
+#[cfg(test)]
+mod tests;
 mod whole;
 
 pub use arithmetic::abs;
@@ -24,6 +26,8 @@ pub use compare::truth;
 pub use dispatch::binary;
 pub use dispatch::empty_fold;
 pub use dispatch::unary;
+pub use laws::indices_stands;
+pub use laws::names_stands;
 pub use laws::patterns_stands;
 pub use nan::canonical;
 pub use whole::index;
