@@ -15,7 +15,7 @@ use lib.Ieee.Nearest.{div-same}
 use Rattle.std.proofs.shelf.Tests.{true≢false, eqb-true, eq-eqb, and-parts, or-cases, cond-true}
 use Rattle.semantics.specs.declared.operation.Unary.the-variants.{Not}
 use Rattle.semantics.specs.declared.operation.Binary.the-variants.{Same}
-use Rattle.numbers.specs.Binary64.{read, flag, bits-one, truth-bits, not-bits, same-bits, whole-bits, index-bits}
+use Rattle.numbers.specs.Binary64.{read, flag, bits-one, not-bits, same-bits, whole-bits, index-bits}
 use Rattle.numbers.specs.Operations.{unary-bits, binary-bits, binary64 as numbers}
 use Rattle.numbers.specs.Indices.{Indices}
 use Rattle.numbers.proofs.Written.{read-write}
@@ -121,13 +121,9 @@ index-of n h =
 
 -- ---- truth
 
-either-way : (b : Bool) → flag b ≡ flag (not (not b))
-either-way true = refl
-either-way false = refl
-
 pub true-or-not : (a : ℕ) → numbers .one Not a ≡ flag (not (numbers .truth a))
-unfolding numbers unary-bits not-bits truth-bits
-true-or-not a = either-way _
+unfolding numbers unary-bits not-bits
+true-or-not a = refl
 
 pub indices : Indices
 indices = record { bound = index-bound; back = index-of; same = index-same; found = index-found; true-or-not = true-or-not }

@@ -54,7 +54,8 @@ unfoldable pub truth-bits : ℕ → Bool
 truth-bits a = not (eq (read a) (read 0) || isNan (read a))
 
 unfoldable pub not-bits : ℕ → ℕ
-not-bits a = flag (eq (read a) (read 0) || isNan (read a))
+unfolding truth-bits
+not-bits a = flag (not (truth-bits a))
 
 -- ---- on two numbers: sums, products and quotients round to nearest, ties to even
 

@@ -51,6 +51,5 @@ pub fn truth(a: u64) -> bool
 pub fn not(a: u64) -> u64
     ensures { λ r. ⌜ r ≡ not-bits a ⌝ }
 {
-    let x = read(a);
-    flagged(x == 0.0 || x.is_nan())
+    flagged(!truth(a))
 }

@@ -1,3 +1,4 @@
+use mathlib.Core.Path.{sym, ap}
 use borrow.Author.Needs.{needs}
 use Rattle.numbers.specs.Operations.{binary64, empty-bits}
 use Rattle.numbers.proofs.dispatch.empty_fold.Needs as need
@@ -12,8 +13,8 @@ returns-in-Mul c = search needs
 
 pub returns-in-Least : need.returns-in-Least
 unfolding binary64 empty-bits
-returns-in-Least c = search needs
+returns-in-Least c = ap (λ k. binary64 .empty k) (sym (c .in-Least .is))
 
 pub returns-in-Most : need.returns-in-Most
 unfolding binary64 empty-bits
-returns-in-Most c = search needs
+returns-in-Most c = ap (λ k. binary64 .empty k) (sym (c .in-Most .is))
