@@ -2,3 +2,4 @@ pub mod Sizes
 pub mod Formats
 pub mod Rows
 pub mod Writings
+pub mod Lying
