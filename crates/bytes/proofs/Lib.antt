@@ -3,3 +3,4 @@ pub mod Formats
 pub mod Rows
 pub mod Writings
 pub mod Lying
+pub mod ReadingBack

@@ -3,7 +3,7 @@ use mathlib.Core.Path.{_≡_, refl, sym, ap, subst, _∙_}
 use native.Mathlib.Numerals.{add-one}
 use mathlib.Core.List.{List, [], _∷_, _++_}
 use Prim.Native.Nat.{ℕ, zero, suc, _+_, _*_, _/_, _%_, _^_, _≤_, _<_}
-use native.Mathlib.Nat.{add-zero, add-assoc, mul-zero, mul-suc}
+use native.Mathlib.Nat.{add-zero, add-assoc, mul-zero, mul-suc, div-div-eq-div-mul, mod-eq-of-lt}
 use native.Mathlib.Omega.{arith}
 use lib.ListN.{length, getD, take, length-append}
 use Rattle.std.specs.Joined.{joined}
@@ -41,13 +41,30 @@ pub word4-lies : (bs : List ℕ) (i x : ℕ) → x < 2 ^ 32 → Lies bs i (bytes
 unfolding word4 bytes4
 word4-lies bs i x small l =
     let first : getD bs i 0 ≡ x % 256 = ap (λ n. getD bs n 0) (sym (add-zero i)) ∙ l .byte 0 (omega arith) in
-    omega (arith, l .byte 1 (omega arith), l .byte 2 (omega arith), l .byte 3 (omega arith))
+    let top : x / 16777216 < 256 = omega arith in
+    let last : x / 16777216 % 256 ≡ x / 16777216 = mod-eq-of-lt top in
+    omega (arith, l .byte 1 (omega arith), l .byte 2 (omega arith), l .byte 3 (omega arith), div-div-eq-div-mul x 256 256, div-div-eq-div-mul x 65536 256)
 
 pub word8-lies : (bs : List ℕ) (i x : ℕ) → x < 2 ^ 64 → Lies bs i (bytes8 x) → word8 bs i ≡ x
 unfolding word8 bytes8
 word8-lies bs i x small l =
     let first : getD bs i 0 ≡ x % 256 = ap (λ n. getD bs n 0) (sym (add-zero i)) ∙ l .byte 0 (omega arith) in
-    omega (arith, l .byte 1 (omega arith), l .byte 2 (omega arith), l .byte 3 (omega arith), l .byte 4 (omega arith), l .byte 5 (omega arith), l .byte 6 (omega arith), l .byte 7 (omega arith))
+    omega (
+      arith,
+      l .byte 1 (omega arith),
+      l .byte 2 (omega arith),
+      l .byte 3 (omega arith),
+      l .byte 4 (omega arith),
+      l .byte 5 (omega arith),
+      l .byte 6 (omega arith),
+      l .byte 7 (omega arith),
+      div-div-eq-div-mul x 256 256,
+      div-div-eq-div-mul x 65536 256,
+      div-div-eq-div-mul x 16777216 256,
+      div-div-eq-div-mul x 4294967296 256,
+      div-div-eq-div-mul x 1099511627776 256,
+      div-div-eq-div-mul x 281474976710656 256,
+    )
 
 -- lengths that were written, as they are read
 pub words-at-lies : (bs : List ℕ) (i : ℕ) (xs : List ℕ) → ((k : ℕ) → k < length xs → getD xs k 0 < 2 ^ 32) → Lies bs i (joined bytes4 xs) → (k : ℕ) → k ≤ length xs → words-at bs i k ≡ take k xs

@@ -5,7 +5,7 @@ ghost use lib.ListN.{length};
 ghost use Rattle.std.specs.Options.{Cases as BySome};
 ghost use Rattle.bytes.specs.Words.{word4, word8};
 ghost use Rattle.bytes.specs.Format.{number-at};
-use numbers::nan::canonical;
+use numbers::canonical;
 
 // The word of four bytes at `at`, or none where the slice ends before it does.
 pub fn read_u32(bytes: &[u8], at: usize) -> Option<u32>

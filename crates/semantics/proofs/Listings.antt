@@ -28,6 +28,6 @@ module _ {Num : Type 0} (a : Array Num) where
   numbers-at-is ns d many each =
       ext-getD d (numbers-at a (up-to 0 (size (a .shape)))) ns (length-numbers-at 0 (size (a .shape)) ∙ sym many)
       (λ k h.
-        let low : k < size (a .shape) = omega (arith, length-numbers-at 0 (size (a .shape))) in
-        let inside : k < length ns = omega arith in
-        getD-numbers-at 0 (size (a .shape)) k d low ∙ (ap (λ m. a .at (unflat (a .shape) m)) (zero-add k) ∙ sym (each k inside)))
+      let low : k < size (a .shape) = omega (arith, length-numbers-at 0 (size (a .shape))) in
+      let inside : k < length ns = omega arith in
+      getD-numbers-at 0 (size (a .shape)) k d low ∙ (ap (λ m. a .at (unflat (a .shape) m)) (zero-add k) ∙ sym (each k inside)))
