@@ -20,13 +20,22 @@ struct Refused {
 // The text is judged before the inputs, and these before the places. No text but the empty one is read yet.
 fn judge(text: &[u8], inputs: &[u8], places: u64) -> Result<(), Refused> {
     if !text.is_empty() {
-        return Err(Refused { number: 7, place: 0 });
+        return Err(Refused {
+            number: 7,
+            place: 0,
+        });
     }
     if let Err(bad) = count_inputs(inputs) {
-        return Err(Refused { number: 9, place: bad.input });
+        return Err(Refused {
+            number: 9,
+            place: bad.input,
+        });
     }
     if places == 0 || places > 1 << 26 {
-        return Err(Refused { number: 10, place: 1 });
+        return Err(Refused {
+            number: 10,
+            place: 1,
+        });
     }
     Ok(())
 }
