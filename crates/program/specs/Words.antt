@@ -118,6 +118,10 @@ unfoldable pub places-in : List ℕ → List ℕ
 unfolding place-in
 places-in ws = map (place-in ws) (counting 0 (length ws / 5))
 
+-- what reading a step answers where there is one
+abbrev pub At : List ℕ → ℕ → Step → Type 0
+At ws k s = (k < length (steps-in ws)) × (s ≡ getD (steps-in ws) k End)
+
 -- old with a step and its place at a node: all other words are as they were
 pub record Stored (old new : List ℕ) (node : ℕ) (step : Step) (place : ℕ) : Type 0 where
   pub there : node < length (steps-in old)

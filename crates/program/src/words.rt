@@ -1,10 +1,9 @@
 // Steps in words: five words a step, one step after another from word 0.
 ghost use mathlib.Core.Path.{_≡_};
 ghost use Prim.Native.Nat.{_/_, _<_, _≤_};
-ghost use lib.ListN.{length, getD};
+ghost use lib.ListN.{length};
 ghost use Rattle.std.specs.Options.{Cases as BySome};
-ghost use Rattle.program.specs.declared.step.Step.the-variants.{End};
-ghost use Rattle.program.specs.Words.{unary-code, binary-code, unary-of, binary-of, words-of, step-of, steps-in, place-in, Stores};
+ghost use Rattle.program.specs.Words.{unary-code, binary-code, unary-of, binary-of, words-of, step-of, steps-in, place-in, At, Stores};
 use crate::step::Step;
 use semantics::operation::Binary;
 use semantics::operation::Unary;
@@ -161,7 +160,7 @@ pub fn count_steps(words: &[u32]) -> usize
 
 // Step `node`, or none where it is past the last.
 pub fn step_at(words: &[u32], node: usize) -> Option<Step>
-    ensures { λ r. ⌜ BySome r (length (steps-in (now (words .entry))) ≤ node) (λ s. (node < length (steps-in (now (words .entry)))) × (s ≡ getD (steps-in (now (words .entry))) node End)) ⌝ }
+    ensures { λ r. ⌜ BySome r (length (steps-in (now (words .entry))) ≤ node) (λ s. At (now (words .entry)) node s) ⌝ }
 {
     if node >= count_steps(words) {
         return None;
