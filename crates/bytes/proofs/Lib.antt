@@ -4,3 +4,4 @@ pub mod Rows
 pub mod Writings
 pub mod Lying
 pub mod ReadingBack
+pub mod Listed

@@ -1,0 +1,6 @@
+// What is written for people: arrays as lines of text.
+mod digits;
+mod listing;
+
+pub use digits::hex_digits;
+pub use listing::list_array;
