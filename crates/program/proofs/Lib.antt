@@ -2,3 +2,4 @@ pub mod Storing
 pub mod Views
 pub mod Lengths
 pub mod Nodes
+pub mod Alone

@@ -1,5 +1,6 @@
 -- Expressions, lists of items and lines by their first step.
 use mathlib.Core.Path.{_≡_, refl, sym, ap, subst, _∙_}
+use mathlib.Core.Bool.{Bool}
 use mathlib.Core.List.{List, [], _∷_}
 use Prim.Native.Nat.{ℕ}
 use native.Mathlib.Omega.{arith}
@@ -19,6 +20,21 @@ cons-rest h = cc
 
 pub cons-nil : {A : Type 0} {x : A} {xs : List A} → x ∷ xs ≡ [] → ⊥
 cons-nil h = let z : _≡_ {A = ℕ} 0 1 = cc in omega arith
+
+-- slices tell their part
+part-of : ℕ → Bool → ℕ → ℕ → Part
+part-of f b s m = record { from = f; backward = b; step = s; many = m }
+
+pub same-part : (p q : Part) → Slice (p .from) (p .backward) (p .step) (p .many) ≡ Slice (q .from) (q .backward) (q .step) (q .many) → p ≡ q
+unfolding part-of
+same-part p q h =
+    let a : p .from ≡ q .from = cc in
+    let b : p .backward ≡ q .backward = cc in
+    let c : p .step ≡ q .step = cc in
+    let d : p .many ≡ q .many = cc in
+    ap (λ x. part-of x (p .backward) (p .step) (p .many)) a
+    ∙ (ap (λ x. part-of (q .from) x (p .step) (p .many)) b
+    ∙ (ap (λ x. part-of (q .from) (q .backward) x (p .many)) c ∙ ap (λ x. part-of (q .from) (q .backward) (q .step) x) d))
 
 -- a family at a first step, carried over to the step that is equal
 at-first : {x s : Step} {xs t : List Step} (F : Step → Type 0) → x ∷ xs ≡ s ∷ t → (t ≡ xs → F x) → F s
