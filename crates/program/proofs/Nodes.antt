@@ -31,7 +31,7 @@ from-past ws i h = drop-all i (steps-in ws) h
 
 pub from-at : (ws : List ℕ) (i : ℕ) (s : Step) → At ws i s → steps-from ws i ≡ s ∷ steps-from ws (i + 1)
 unfolding steps-from
-from-at ws i s h = drop-more (steps-in ws) i End (h .0) ∙ ap (λ x. x ∷ drop (i + 1) (steps-in ws)) (sym (h .1))
+from-at ws i s h = drop-more (steps-in ws) i End (h .there) ∙ ap (λ x. x ∷ drop (i + 1) (steps-in ws)) (sym (h .is))
 
 pub from-more : (ws : List ℕ) (i n : ℕ) → drop n (steps-from ws i) ≡ steps-from ws (i + n)
 unfolding steps-from
