@@ -16,8 +16,8 @@ use Rattle.program.specs.declared.step.Step.the-variants.{End, Let, Put, Show,
 use Rattle.program.specs.Spelling.{items, slices, spell, spell-program}
 use Rattle.program.specs.Marks.{marks, long}
 use Rattle.program.specs.Words.{steps-in, At}
-use Rattle.program.specs.Standing.{steps-from, Stands, Items-stand, Slices-stand, Closed, nothing, closed, Runs, Skips, Skips-slices, Closes, First-item, First-slice, View, is-name, is-input, is-constant, is-count, is-each, is-both, is-choose, is-fold, is-scan, is-shape, is-turn, is-part, is-join, is-rows, Items-view, item, no-item, Slices-view, slice, no-slice, Lines-view, is-end, is-let, is-put, is-show, is-again}
-use Rattle.program.proofs.Views.{view-spell, view-items, view-slices, view-lines, view-no-lines, opens, cons-first, cons-rest, same-part}
+use Rattle.program.specs.Standing.{steps-from, Stands, Items-stand, Slices-stand, Closed, nothing, closed, Runs, Skips, Skips-slices, Closes, First-item, First-slice, View, is-name, is-input, is-constant, is-count, is-each, is-both, is-choose, is-fold, is-scan, is-shape, is-turn, is-part, is-join, is-rows, Opens, Opens-line, Items-view, item, no-item, Slices-view, slice, no-slice, Lines-view, is-end, is-let, is-put, is-show, is-again}
+use Rattle.program.proofs.Views.{view-spell, view-items, view-slices, view-lines, view-no-lines, opens, opens-line, cons-first, cons-rest, same-part}
 use Rattle.program.proofs.Lengths.{length-items, length-slices, length-spell, length-program, marks-some, drop-items, drop-slices, drop-spell, drop-program}
 
 -- the steps from a node on: their number, none past the last, and the first with the others behind it
@@ -103,6 +103,13 @@ module _ (ws : List ℕ) (i : ℕ) (x : Step) (at : At ws i x) where
 
   runs-view : (s : Step) → x ≡ s → (st : Runs ws i) → Lines-view (st .rest) (steps-from ws (i + 1)) (st .program) s
   runs-view s is st = lines-view s is (st .program) (st .rest) (st .close) (st .enc)
+
+  -- the step there is one that an expression, or a line, begins with
+  pub stands-opens : {s : Step} → x ≡ s → Stands ws i → Opens s
+  stands-opens {s} is st = opens (stands-view s is st)
+
+  pub runs-opens : {s : Step} → x ≡ s → Runs ws i → Opens-line s
+  runs-opens {s} is st = opens-line (runs-view s is st)
 
   -- the operands of the operation there, each behind those before it
   pub each-operand : {k : Unary} → x ≡ Each k → Stands ws i → Stands ws (i + 1)

@@ -13,5 +13,5 @@ returns c =
     record {
       there = omega arith;
       is = c .read-step .ensures ∙ sym (steps-in-at (c .args .words .now) (c .args .node) there);
-      words = omega arith
+      words = omega arith;
     }
