@@ -3,3 +3,4 @@ pub mod Views
 pub mod Lengths
 pub mod Nodes
 pub mod Alone
+pub mod Closings

@@ -3,3 +3,4 @@ pub mod Marks
 pub mod Words
 pub mod Standing
 pub mod StepLaws
+pub mod Closing
