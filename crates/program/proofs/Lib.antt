@@ -4,3 +4,4 @@ pub mod Lengths
 pub mod Nodes
 pub mod Alone
 pub mod Closings
+pub mod Fitting

@@ -4,3 +4,4 @@ pub mod Words
 pub mod Standing
 pub mod StepLaws
 pub mod Closing
+pub mod Sayable
