@@ -5,3 +5,4 @@ pub mod Nodes
 pub mod Alone
 pub mod Closings
 pub mod Fitting
+pub mod Leadings

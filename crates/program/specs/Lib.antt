@@ -5,3 +5,4 @@ pub mod Standing
 pub mod StepLaws
 pub mod Closing
 pub mod Sayable
+pub mod Leading
