@@ -37,6 +37,14 @@ pub from-more : (ws : List ℕ) (i n : ℕ) → drop n (steps-from ws i) ≡ ste
 unfolding steps-from
 from-more ws i n = drop-drop n i (steps-in ws)
 
+-- from the first node on all steps: a program that the words are stands there
+pub from-start : (ws : List ℕ) → steps-from ws 0 ≡ steps-in ws
+unfolding steps-from
+from-start ws = refl
+
+pub runs-start : (ws : List ℕ) (p : Program ℕ) → steps-in ws ≡ spell-program p [] → Runs ws 0
+runs-start ws p h = record { program = p; rest = []; close = nothing; enc = from-start ws ∙ h }
+
 -- an expression, lines: where they stand there is a step, and what is behind them is further on
 pub expr-there : (ws : List ℕ) (i : ℕ) (e : Expr ℕ) (r : List Step) → steps-from ws i ≡ spell e r → i < length (steps-in ws)
 expr-there ws i e r h = omega (arith, length-from ws i, ap length h, length-spell e r, marks-some e)
