@@ -19,7 +19,7 @@ use Rattle.semantics.specs.declared.operation.Unary.the-variants.{Neg, Abs, Sqr
 use Rattle.semantics.specs.declared.operation.Binary.{Binary}
 use Rattle.semantics.specs.declared.operation.Binary.the-variants.{Add, Sub, Mul, Div, Less, Same, Least, Most}
 use Rattle.program.specs.Words.{words-of, step-of, unary-of, unary-code, binary-of, binary-code, step-in, place-in, steps-in, places-in, Stored}
-use Rattle.std.specs.declared.option.Option.the-variants.{Some, None}
+use Rattle.std.specs.declared.option.Option.the-variants.{Some}
 
 -- as many as the words have fifths
 pub length-steps-in : (ws : List ℕ) → length (steps-in ws) ≡ length ws / 5
@@ -285,17 +285,17 @@ module _ (ws : List ℕ) (n : ℕ) (there : 5 * n ≤ length ws) where
       ext-getD End (steps-in (take (5 * n) ws)) (take n (steps-in ws))
       (omega (arith, front-length, length-steps-in (take (5 * n) ws), length-steps-in ws, length-take-le n (steps-in ws) (omega (arith, length-steps-in ws))))
       (λ k h.
-        let low : k < n = omega (arith, front-length, length-steps-in (take (5 * n) ws)) in
-        let in-front : k < length (take (5 * n) ws) / 5 = omega (arith, front-length) in
-        let in-all : k < length ws / 5 = omega arith in
-        steps-in-at (take (5 * n) ws) k in-front ∙ (step-in-take k low ∙ (sym (steps-in-at ws k in-all) ∙ sym (getD-take n (steps-in ws) k End low))))
+      let low : k < n = omega (arith, front-length, length-steps-in (take (5 * n) ws)) in
+      let in-front : k < length (take (5 * n) ws) / 5 = omega (arith, front-length) in
+      let in-all : k < length ws / 5 = omega arith in
+      steps-in-at (take (5 * n) ws) k in-front ∙ (step-in-take k low ∙ (sym (steps-in-at ws k in-all) ∙ sym (getD-take n (steps-in ws) k End low))))
 
   pub places-in-take : places-in (take (5 * n) ws) ≡ take n (places-in ws)
   places-in-take =
       ext-getD 0 (places-in (take (5 * n) ws)) (take n (places-in ws))
       (omega (arith, front-length, length-places-in (take (5 * n) ws), length-places-in ws, length-take-le n (places-in ws) (omega (arith, length-places-in ws))))
       (λ k h.
-        let low : k < n = omega (arith, front-length, length-places-in (take (5 * n) ws)) in
-        let in-front : k < length (take (5 * n) ws) / 5 = omega (arith, front-length) in
-        let in-all : k < length ws / 5 = omega arith in
-        places-in-at (take (5 * n) ws) k in-front ∙ (place-in-take k low ∙ (sym (places-in-at ws k in-all) ∙ sym (getD-take n (places-in ws) k 0 low))))
+      let low : k < n = omega (arith, front-length, length-places-in (take (5 * n) ws)) in
+      let in-front : k < length (take (5 * n) ws) / 5 = omega (arith, front-length) in
+      let in-all : k < length ws / 5 = omega arith in
+      places-in-at (take (5 * n) ws) k in-front ∙ (place-in-take k low ∙ (sym (places-in-at ws k in-all) ∙ sym (getD-take n (places-in ws) k 0 low))))

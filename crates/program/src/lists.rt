@@ -29,24 +29,24 @@ pub fn item_at(words: &[u32], node: usize, index: usize) -> u32
     let Some(step) = step_at(words, node + index) else {
         return unreachable();
     };
-    let Step::Item(k) = step else {
-        return unreachable();
-    };
-    k
+    match step {
+        Step::Item(k) => k,
+        _ => unreachable(),
+    }
 }
 
 // How many slices stand from `node` on.
 pub fn count_slices(words: &[u32], node: usize) -> usize
     ensures { λ r. ⌜ r ≡ length (slices-at (now (words .entry)) node) ⌝ }
 {
-    let mut at = node;
-    while let Some(step) = step_at(words, at) {
+    let mut next = node;
+    while let Some(step) = step_at(words, next) {
         let Step::Slice(_, _, _, _) = step else {
-            return at - node;
+            return next - node;
         };
-        at += 1;
+        next += 1;
     }
-    at - node
+    next - node
 }
 
 // Slice `index` of those from `node` on.

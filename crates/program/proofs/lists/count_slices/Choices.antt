@@ -5,7 +5,7 @@ use Rattle.program.specs.Leading.{slices-at}
 use Rattle.program.proofs.lists.count_slices.Given as given
 
 abbrev pub Inv-loop-step : given.InvT-loop-step
-Inv-loop-step l = (l .node ≤ l .at) × (l .at - l .node ≤ length (slices-at (l .words) (l .node)))
+Inv-loop-step l = (l .node ≤ l .next) × (l .next - l .node ≤ length (slices-at (l .words) (l .node)))
 
 abbrev pub μ-loop-step : given.MeasureT-loop-step
-μ-loop-step l = length (steps-in (l .words)) - l .at
+μ-loop-step l = length (steps-in (l .words)) - l .next

@@ -1,8 +1,6 @@
-use mathlib.Core.Path.{_≡_, sym, _∙_}
-use Prim.Native.Nat.{ℕ, _+_, _/_}
+use mathlib.Core.Path.{_≡_}
+use Prim.Native.Nat.{ℕ}
 use native.Mathlib.Omega.{arith}
-use lib.ListN.{length, getD}
-use Rattle.program.specs.Words.{steps-in}
 use Rattle.program.specs.Leading.{item-in, items-at}
 use Rattle.program.proofs.Storing.{length-steps-in}
 use Rattle.program.proofs.Leadings.{read-there, read-is, item-in-item, item-in-other}

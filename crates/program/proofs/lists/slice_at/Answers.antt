@@ -1,8 +1,6 @@
-use mathlib.Core.Path.{_≡_, sym, _∙_}
-use Prim.Native.Nat.{ℕ, _+_, _/_}
+use mathlib.Core.Path.{_≡_}
+use Prim.Native.Nat.{ℕ}
 use native.Mathlib.Omega.{arith}
-use lib.ListN.{length, getD}
-use Rattle.program.specs.Words.{steps-in}
 use Rattle.program.specs.Leading.{slice-in, slices-at, no-part}
 use Rattle.program.proofs.Storing.{length-steps-in}
 use Rattle.program.proofs.Leadings.{read-there, read-is, slice-in-slice, slice-in-other}
