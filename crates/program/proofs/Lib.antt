@@ -6,3 +6,4 @@ pub mod Alone
 pub mod Closings
 pub mod Fitting
 pub mod Leadings
+pub mod Behinds

@@ -6,3 +6,4 @@ pub mod StepLaws
 pub mod Closing
 pub mod Sayable
 pub mod Leading
+pub mod Behind
