@@ -188,12 +188,12 @@ no-slices-first (part ps e) r = refl
 no-slices-first (join x e f) r = refl
 no-slices-first (rows e f) r = refl
 
-leading-items : (ks : List ℕ) (e : Expr ℕ) (r : List Step) → leading item-in (items ks (spell e r)) ≡ ks
+pub leading-items : (ks : List ℕ) (e : Expr ℕ) (r : List Step) → leading item-in (items ks (spell e r)) ≡ ks
 unfolding leading item-in items
 leading-items [] e r = no-items-first e r
 leading-items (k ∷ ks) e r = ap (λ l. k ∷ l) (leading-items ks e r)
 
-leading-slices : (ps : List Part) (e : Expr ℕ) (r : List Step) → leading slice-in (slices ps (spell e r)) ≡ ps
+pub leading-slices : (ps : List Part) (e : Expr ℕ) (r : List Step) → leading slice-in (slices ps (spell e r)) ≡ ps
 unfolding leading slice-in slices
 leading-slices [] e r = no-slices-first e r
 leading-slices (p ∷ ps) e r = ap (λ l. p ∷ l) (leading-slices ps e r)
