@@ -1,6 +1,6 @@
 // The items and the slices that stand one after another from a node on: an operand stands behind the last.
 ghost use mathlib.Core.Path.{_≡_};
-ghost use Prim.Native.Nat.{_<_};
+ghost use Prim.Native.Nat.{_+_, _^_, _<_};
 ghost use lib.ListN.{length, getD};
 ghost use Rattle.program.specs.Leading.{items-at, slices-at, part-of, no-part};
 use crate::slice::Slice;
@@ -9,7 +9,8 @@ use crate::words::step_at;
 
 // How many items stand from `node` on.
 pub fn count_items(words: &[u32], node: usize) -> usize
-    ensures { λ r. ⌜ r ≡ length (items-at (now (words .entry)) node) ⌝ }
+    ensures count { λ r. ⌜ r ≡ length (items-at (now (words .entry)) node) ⌝ }
+    ensures fits { λ r. ⌜ node + r < 2 ^ 64 ⌝ }
 {
     let mut at = node;
     while let Some(step) = step_at(words, at) {
@@ -37,7 +38,8 @@ pub fn item_at(words: &[u32], node: usize, index: usize) -> u32
 
 // How many slices stand from `node` on.
 pub fn count_slices(words: &[u32], node: usize) -> usize
-    ensures { λ r. ⌜ r ≡ length (slices-at (now (words .entry)) node) ⌝ }
+    ensures count { λ r. ⌜ r ≡ length (slices-at (now (words .entry)) node) ⌝ }
+    ensures fits { λ r. ⌜ node + r < 2 ^ 64 ⌝ }
 {
     let mut next = node;
     while let Some(step) = step_at(words, next) {
