@@ -1,4 +1,4 @@
-use mathlib.Core.Path.{_≡_, refl, sym, _∙_}
+use mathlib.Core.Path.{sym, _∙_}
 use Prim.Native.Nat.{_/_, _<_}
 use native.Mathlib.Omega.{arith}
 use lib.ListN.{length}
@@ -10,4 +10,8 @@ pub returns : need.returns
 unfolding step-in
 returns c =
     let there : c .args .node < length (c .args .words .now) / 5 = omega arith in
-    (omega arith, c .read-step .ensures ∙ sym (steps-in-at (c .args .words .now) (c .args .node) there))
+    record {
+      there = omega arith;
+      is = c .read-step .ensures ∙ sym (steps-in-at (c .args .words .now) (c .args .node) there);
+      words = omega arith;
+    }
