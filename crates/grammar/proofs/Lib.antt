@@ -5,3 +5,5 @@ pub mod NumberAlong
 pub mod NameAlong
 pub mod Emits
 pub mod Pieces
+pub mod ListAlong
+pub mod ExprAlong
