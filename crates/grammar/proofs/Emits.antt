@@ -9,7 +9,7 @@ use Rattle.program.specs.declared.step.Step.{Step}
 use Rattle.program.specs.Spelling.{items, slices, spell, spell-program}
 
 -- the first list backward, before the second
-unfoldable pub onto : List Step → List Step → List Step
+abbrev pub onto : List Step → List Step → List Step
 onto [] o = o
 onto (a ∷ r) o = onto r (a ∷ o)
 
@@ -51,17 +51,17 @@ emit-program (show e p) o = emit-program p (emit e (Step.Show ∷ o))
 emit-program (again k b p) o = emit-program p (Step.End ∷ emit-program b (Step.Again k ∷ o))
 
 onto-items : (ks : List ℕ) (r o : List Step) → onto (items ks r) o ≡ onto r (emit-items ks o)
-unfolding onto items emit-items
+unfolding items emit-items
 onto-items [] r o = refl
 onto-items (k ∷ ks) r o = onto-items ks r (Step.Item k ∷ o)
 
 onto-slices : (ps : List Part) (r o : List Step) → onto (slices ps r) o ≡ onto r (emit-parts ps o)
-unfolding onto slices emit-parts
+unfolding slices emit-parts
 onto-slices [] r o = refl
 onto-slices (p ∷ ps) r o = onto-slices ps r (slice p ∷ o)
 
 pub onto-spell : (e : Expr ℕ) (r o : List Step) → onto (spell e r) o ≡ onto r (emit e o)
-unfolding onto spell emit
+unfolding spell emit
 onto-spell (name k) r o = refl
 onto-spell (input k) r o = refl
 onto-spell (constant x) r o = refl
@@ -78,7 +78,7 @@ onto-spell (join x e f) r o = onto-spell e (spell f r) _ ∙ onto-spell f r _
 onto-spell (rows e f) r o = onto-spell e (spell f r) _ ∙ onto-spell f r _
 
 pub onto-spell-program : (p : Program ℕ) (r o : List Step) → onto (spell-program p r) o ≡ onto r (emit-program p o)
-unfolding onto spell-program emit-program
+unfolding spell-program emit-program
 onto-spell-program end r o = refl
 onto-spell-program (be k e p) r o = onto-spell e (spell-program p r) _ ∙ onto-spell-program p r _
 onto-spell-program (put k ps e p) r o = onto-slices ps (spell e (spell-program p r)) _ ∙ onto-spell e (spell-program p r) _ ∙ onto-spell-program p r _

@@ -8,3 +8,5 @@ pub mod Pieces
 pub mod ListAlong
 pub mod ExprAlong
 pub mod LinesAlong
+pub mod Says
+pub mod Back
