@@ -10,3 +10,4 @@ pub mod ExprAlong
 pub mod LinesAlong
 pub mod Says
 pub mod Back
+pub mod EndsBack
