@@ -152,7 +152,7 @@ number-said ms Number.From w v rest s (says-next says-byte (says-next (says-step
 number-said ms (Number.Step k b) w v rest s (says-next says-byte (says-next (says-number y a-many) r)) = says-next (says-digits [] s (sym (append-nil (decimal v))) (a-step y)) r
 number-said ms (Number.Many k b m) w v rest s r = says-next (says-digits [] s (sym (append-nil (decimal v))) a-many) r
 
-pub ends-back : (ms ns : List Word) (s : Symbol) (w : Word) (v : ℕ) → Small v → Ends-back ms ns s w v (ends ns s w v)
+pub ends-back : (ms ns : List Word) (s : Symbol) (w : Word) (v : ℕ) → ((p : Number) → s ≡ Symbol.Digits p → Small v) → Ends-back ms ns s w v (ends ns s w v)
 unfolding ends
 ends-back ms ns Symbol.Lines w v l = ends-no
 ends-back ms ns Symbol.Body w v l = ends-no
@@ -162,7 +162,7 @@ ends-back ms ns Symbol.Expr w v l = ends-no
 ends-back ms ns Symbol.Word w v l = word-ends-back ms ns w v (find head-word heads w) refl
 ends-back ms ns (Symbol.Binary x) w v l = binary-ends-back ms ns x w v (find binary-word binaries w) refl
 ends-back ms ns (Symbol.Number p) w v l = ends-no
-ends-back ms ns (Symbol.Digits p) w v l = ends-so (λ rest o f a q r. (q, number-said ms p w v rest l r))
+ends-back ms ns (Symbol.Digits p) w v l = ends-so (λ rest o f a q r. (q, number-said ms p w v rest (l p refl) r))
 ends-back ms ns (Symbol.Hex n) w v l = ends-no
 ends-back ms ns (Symbol.Operands n) w v l = ends-no
 ends-back ms ns (Symbol.First k) w v l = ends-no

@@ -11,3 +11,6 @@ pub mod LinesAlong
 pub mod Says
 pub mod Back
 pub mod EndsBack
+pub mod Sound
+pub mod Tells
+pub mod Fuller
