@@ -14,3 +14,4 @@ pub mod EndsBack
 pub mod Sound
 pub mod Tells
 pub mod Fuller
+pub mod NeverEmpty
