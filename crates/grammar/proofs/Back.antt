@@ -26,7 +26,7 @@ use Rattle.grammar.specs.declared.symbol.Target.{Target}
 use Rattle.grammar.specs.declared.symbol.Bracket.{Bracket}
 use Rattle.grammar.specs.declared.symbol.Number.{Number}
 use Rattle.grammar.specs.declared.symbol.Symbol.{Symbol}
-use Rattle.grammar.proofs.Emits.{onto}
+use Rattle.grammar.specs.Automaton.{onto}
 use Rattle.grammar.proofs.NumberAlong.{flagged-snoc, is-digit-of}
 use Rattle.grammar.proofs.Says.{Says, Says-all, says-none, says-next, Follows, an-again, an-item, a-from, a-step, a-many, says-lines, says-body, says-byte, says-let, says-put, says-expr, says-word, says-binary, says-number, says-digits, says-hex, says-close, says-more, says-first-items, says-first-parts, says-more-items, says-more-parts, says-item, says-part, says-step, sign}
 

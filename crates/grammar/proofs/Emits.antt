@@ -6,12 +6,8 @@ use Rattle.semantics.specs.Parts.{Part}
 use Rattle.semantics.specs.Values.{Expr, name, input, constant, count, each, both, choose, fold, scan, shape-to, turn, part, join, rows}
 use Rattle.semantics.specs.Programs.{Program, end, be, put, show, again}
 use Rattle.program.specs.declared.step.Step.{Step}
+use Rattle.grammar.specs.Automaton.{onto}
 use Rattle.program.specs.Spelling.{items, slices, spell, spell-program}
-
--- the first list backward, before the second
-abbrev pub onto : List Step → List Step → List Step
-onto [] o = o
-onto (a ∷ r) o = onto r (a ∷ o)
 
 unfoldable pub emit-items : List ℕ → List Step → List Step
 emit-items [] o = o

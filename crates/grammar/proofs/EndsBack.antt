@@ -26,7 +26,7 @@ use Rattle.grammar.specs.declared.symbol.Along.{Along}
 use Rattle.grammar.specs.declared.symbol.Target.{Target}
 use Rattle.grammar.specs.declared.symbol.Number.{Number}
 use Rattle.grammar.specs.declared.symbol.Symbol.{Symbol}
-use Rattle.grammar.proofs.Emits.{onto}
+use Rattle.grammar.specs.Automaton.{onto}
 use Rattle.grammar.proofs.WordLaws.{find-some}
 use Rattle.grammar.proofs.NameLaws.{place-there, place-absent}
 use Rattle.grammar.proofs.Back.{pick-told}

@@ -15,3 +15,5 @@ pub mod Sound
 pub mod Tells
 pub mod Fuller
 pub mod NeverEmpty
+pub mod Unspell
+pub mod Accepts

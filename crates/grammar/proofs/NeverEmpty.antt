@@ -25,7 +25,7 @@ use Rattle.grammar.specs.declared.symbol.Target.{Target}
 use Rattle.grammar.specs.declared.symbol.Bracket.{Bracket}
 use Rattle.grammar.specs.declared.symbol.Number.{Number}
 use Rattle.grammar.specs.declared.symbol.Symbol.{Symbol}
-use Rattle.grammar.proofs.Emits.{onto}
+use Rattle.grammar.specs.Automaton.{onto}
 use Rattle.grammar.proofs.WordLaws.{begins-some-is}
 use Rattle.grammar.proofs.ExprAlong.{Spellings}
 use Rattle.grammar.proofs.EndsBack.{Front, append-nil}

@@ -11,7 +11,7 @@ use Rattle.grammar.specs.Words.{Word}
 use Rattle.grammar.specs.Moves.{belongs, Move, stop, move, moves, Ended, no, ended, ends}
 use Rattle.grammar.specs.Automaton.{State, stuck, at, settle, settled, top-move, moved, next, run}
 use Rattle.grammar.specs.declared.symbol.Symbol.{Symbol}
-use Rattle.grammar.proofs.Emits.{onto}
+use Rattle.grammar.specs.Automaton.{onto}
 use Rattle.grammar.proofs.ExprAlong.{Spellings}
 use Rattle.grammar.proofs.Says.{Says-all}
 use Rattle.grammar.proofs.Back.{Back, Backs, back-stop, back-move, moves-back, pick-told}

@@ -5,7 +5,7 @@ use Prim.Native.Nat.{ℕ, suc}
 use lib.Dec.{ltb, eqb}
 use Rattle.semantics.specs.Shapes.{pick}
 use Rattle.program.specs.declared.step.Step.{Step}
-use Rattle.grammar.specs.Letters.{Flag, inside, Tally, tally-flag}
+use Rattle.grammar.specs.Letters.{Flag, inside, Tally, nothing, tally-flag}
 use Rattle.grammar.specs.Words.{Word}
 use Rattle.grammar.specs.Moves.{belongs, Ended, no, ended, ends, Move, stop, move, moves}
 use Rattle.grammar.specs.declared.symbol.Symbol.{Symbol}
@@ -61,6 +61,12 @@ unfolding next
 run q [] = q
 run q (b ∷ t) = run (next q b) t
 
+-- what is counted along bytes
+unfoldable pub run-tally : State → Tally → List ℕ → Tally
+unfolding next next-flag tally-flag
+run-tally q c [] = c
+run-tally q c (b ∷ t) = run-tally (next q b) (tally-flag (next-flag q b) c) t
+
 -- between lines, outside of every again
 unfoldable pub is-lines : Symbol → Bool
 is-lines Symbol.Lines = true
@@ -90,16 +96,22 @@ unfoldable pub is-stuck : State → Bool
 is-stuck stuck = true
 is-stuck (at ns out s w v) = false
 
+-- the first list backward, before the second
+abbrev pub onto : List Step → List Step → List Step
+onto [] o = o
+onto (a ∷ r) o = onto r (a ∷ o)
+
+-- the steps so far, in their order
 unfoldable pub steps-of : State → List Step
 steps-of stuck = []
-steps-of (at ns out s w v) = out
+steps-of (at ns out s w v) = onto out []
 
 -- at the text's end the last newline is read, where it is left out
 unfoldable pub last : State → State
 unfolding between next
 last q = pick (between q) q (next q 10)
 
--- what is said of a text: the steps of its program, the last one first; or at which byte it is no program, or too much
+-- what is said of a text: the steps of its program; or at which byte it is no program, or too much
 pub data Answer : Type 0 where
   took : List Step → Answer
   refused-7 : ℕ → Answer
@@ -118,4 +130,4 @@ judge q c i (b ∷ t) =
 
 unfoldable pub answer-to : List ℕ → Answer
 unfolding judge start
-answer-to t = judge start (record { marks = 0; level = 0 }) 0 t
+answer-to t = judge start nothing 0 t

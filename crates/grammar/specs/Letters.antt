@@ -39,6 +39,9 @@ pub record Tally : Type 0 where
   pub marks : ℕ
   pub level : ℕ
 
+abbrev pub nothing : Tally
+nothing = record { marks = 0; level = 0 }
+
 unfoldable pub tally-flag : Flag → Tally → Tally
 tally-flag inside c = c
 tally-flag begins c = record { marks = suc (c .marks); level = c .level }
@@ -55,4 +58,4 @@ tally-from c (x ∷ f) = tally-from (tally-flag (flag-of x) c) f
 
 unfoldable pub tally : List Letter → Tally
 unfolding tally-from
-tally f = tally-from (record { marks = 0; level = 0 }) f
+tally f = tally-from nothing f
