@@ -17,3 +17,4 @@ pub mod Fuller
 pub mod NeverEmpty
 pub mod Unspell
 pub mod Accepts
+pub mod Judges

@@ -6,7 +6,9 @@ use lib.Dec.{ltb, eqb}
 use Rattle.semantics.specs.Shapes.{pick}
 use Rattle.program.specs.declared.step.Step.{Step}
 use Rattle.grammar.specs.Letters.{Flag, inside, Tally, nothing, tally-flag}
+use Rattle.program.specs.Spelling.{spell-program}
 use Rattle.grammar.specs.Words.{Word}
+use Rattle.grammar.specs.Texts.{Verdict, taken, no-program, too-much}
 use Rattle.grammar.specs.Moves.{belongs, Ended, no, ended, ends, Move, stop, move, moves}
 use Rattle.grammar.specs.declared.symbol.Symbol.{Symbol}
 
@@ -116,6 +118,13 @@ pub data Answer : Type 0 where
   took : List Step → Answer
   refused-7 : ℕ → Answer
   refused-8 : ℕ → Answer
+
+-- the answer that a verdict is
+unfoldable pub answer-of : Verdict → Answer
+unfolding spell-program
+answer-of (taken p) = took (spell-program p [])
+answer-of (no-program i) = refused-7 i
+answer-of (too-much i) = refused-8 i
 
 unfoldable pub too-much-in : Tally → Bool
 too-much-in c = ltb 2048 (c .marks) || ltb 8 (c .level)
