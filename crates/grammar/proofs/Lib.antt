@@ -18,3 +18,4 @@ pub mod NeverEmpty
 pub mod Unspell
 pub mod Accepts
 pub mod Judges
+pub mod TextLaws

@@ -7,3 +7,4 @@ pub mod Written
 pub mod Texts
 pub mod Moves
 pub mod Automaton
+pub mod TextLaws
