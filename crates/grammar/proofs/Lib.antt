@@ -19,3 +19,4 @@ pub mod Unspell
 pub mod Accepts
 pub mod Judges
 pub mod TextLaws
+pub mod HasText

@@ -4,6 +4,7 @@ pub mod Words
 pub mod Constants
 pub mod Sayable
 pub mod Written
+pub mod Limits
 pub mod Texts
 pub mod Moves
 pub mod Automaton
