@@ -20,3 +20,4 @@ pub mod Accepts
 pub mod Judges
 pub mod TextLaws
 pub mod HasText
+pub mod Lengths
