@@ -178,3 +178,55 @@ module _ (ms : List Word) (are : are-names ms ≡ true) where
       let s : List Letter = flagged closes (codes "end") u in
       let t : List Letter = plain 10 ∷ write-lines ms b s in
       omega (arith, length-flagged opens (codes "again ") (write-number k t), number-short k t h, lines-short s x, length-flagged closes (codes "end") u, lines-short r y)
+
+-- reading a constant changes no mark and no depth
+marks-in-read : (e : Expr (List ℕ)) → marks-in (read-expr e) ≡ marks-in e
+unfolding marks-in read-expr
+marks-in-read (Expr.name k) = refl
+marks-in-read (Expr.input k) = refl
+marks-in-read (Expr.constant x) = refl
+marks-in-read (Expr.count k) = refl
+marks-in-read (Expr.each k e) = omega (arith, marks-in-read e)
+marks-in-read (Expr.both k e f) = omega (arith, marks-in-read e, marks-in-read f)
+marks-in-read (Expr.choose e f g) = omega (arith, marks-in-read e, marks-in-read f, marks-in-read g)
+marks-in-read (Expr.fold k x e) = omega (arith, marks-in-read e)
+marks-in-read (Expr.scan k x e) = omega (arith, marks-in-read e)
+marks-in-read (Expr.shape-to t e) = omega (arith, marks-in-read e)
+marks-in-read (Expr.turn t e) = omega (arith, marks-in-read e)
+marks-in-read (Expr.part t e) = omega (arith, marks-in-read e)
+marks-in-read (Expr.join x e f) = omega (arith, marks-in-read e, marks-in-read f)
+marks-in-read (Expr.rows e f) = omega (arith, marks-in-read e, marks-in-read f)
+
+pub marks-of-read : (p : Program (List ℕ)) → marks-of (read-program p) ≡ marks-of p
+unfolding marks-of read-program
+marks-of-read Program.end = refl
+marks-of-read (Program.be k e p) = omega (arith, marks-in-read e, marks-of-read p)
+marks-of-read (Program.put k ps e p) = omega (arith, marks-in-read e, marks-of-read p)
+marks-of-read (Program.show e p) = omega (arith, marks-in-read e, marks-of-read p)
+marks-of-read (Program.again k b p) = omega (arith, marks-of-read b, marks-of-read p)
+
+pub depth-of-read : (p : Program (List ℕ)) → depth-of (read-program p) ≡ depth-of p
+unfolding depth-of read-program
+depth-of-read Program.end = refl
+depth-of-read (Program.be k e p) = depth-of-read p
+depth-of-read (Program.put k ps e p) = depth-of-read p
+depth-of-read (Program.show e p) = depth-of-read p
+depth-of-read (Program.again k b p) = omega (arith, depth-of-read b, depth-of-read p)
+
+length-bytes : (f : List Letter) → length (bytes f) ≡ length f
+unfolding bytes
+length-bytes [] = refl
+length-bytes (letter x b ∷ f) = ap suc (length-bytes f)
+
+writing-short : (w : Writing) → length (bytes (letters w)) ≤ 35 * marks-of (w .written)
+unfolding letters
+writing-short w = omega (arith, length-bytes (write-lines (w .names) (w .written) []), lines-short (w .names) (w .are) [] (w .fits))
+
+pub reads-short : (t : List ℕ) (p : Program ℕ) → Reads t p → length t ≤ 35 * marks-of p
+reads-short t p r =
+    let a = writing-short (r .writing) in
+    let b : marks-of p ≡ marks-of (r .writing .written) = ap marks-of (sym (r .is)) ∙ marks-of-read (r .writing .written) in
+    ⊎-elim
+    (λ e. let c : length (bytes (letters (r .writing))) ≡ length t = ap length e in omega arith)
+    (λ e. let c : length (bytes (letters (r .writing))) ≡ length (t ++ 10 ∷ []) = ap length e in omega (arith, length-append t (10 ∷ [])))
+    (r .lines)

@@ -21,3 +21,4 @@ pub mod Judges
 pub mod TextLaws
 pub mod HasText
 pub mod Lengths
+pub mod Counts
