@@ -27,20 +27,21 @@ use Rattle.grammar.proofs.ExprAlong.{fits-more, comes-more}
 use Rattle.grammar.proofs.LinesAlong.{lines-more}
 
 -- the level with one flag more; the marks that letters begin, and the level that they come to at the highest, from level l
-level-flag : Flag → ℕ → ℕ
+unfoldable pub level-flag : Flag → ℕ → ℕ
 level-flag inside l = l
 level-flag begins l = l
 level-flag opens l = suc l
 level-flag closes l = l - 1
 
-pub marks-along : List Letter → ℕ
+unfoldable pub marks-along : List Letter → ℕ
 marks-along [] = 0
 marks-along (letter inside b ∷ f) = marks-along f
 marks-along (letter begins b ∷ f) = suc (marks-along f)
 marks-along (letter opens b ∷ f) = suc (marks-along f)
 marks-along (letter closes b ∷ f) = suc (marks-along f)
 
-pub peak-along : ℕ → List Letter → ℕ
+unfoldable pub peak-along : ℕ → List Letter → ℕ
+unfolding level-flag
 peak-along l [] = l
 peak-along l (letter x b ∷ f) = max l (peak-along (level-flag x l) f)
 

@@ -36,12 +36,12 @@ take-split (suc i) zero t h = absurd (omega arith)
 take-split (suc i) (suc j) [] h = ([], refl)
 take-split {A} (suc i) (suc j) (x ∷ t) h = let k = take-split i j t (omega arith) in (k .0, ap {B = List A} (λ y. x ∷ y) (k .1))
 
-take-all : {A : Type 0} (i : ℕ) (t : List A) → (rest : List A) × (t ≡ take i t ++ rest)
+pub take-all : {A : Type 0} (i : ℕ) (t : List A) → (rest : List A) × (t ≡ take i t ++ rest)
 take-all zero t = (t, refl)
 take-all (suc i) [] = ([], refl)
 take-all {A} (suc i) (x ∷ t) = let k = take-all i t in (k .0, ap {B = List A} (λ y. x ∷ y) (k .1))
 
-bytes-take : (i : ℕ) (f : List Letter) → bytes (take i f) ≡ take i (bytes f)
+pub bytes-take : (i : ℕ) (f : List Letter) → bytes (take i f) ≡ take i (bytes f)
 unfolding bytes
 bytes-take zero f = refl
 bytes-take (suc i) [] = refl
@@ -58,7 +58,7 @@ take-less (suc i) [] more h = absurd (omega arith)
 take-less (suc i) (b ∷ t) more h = ap {B = List ℕ} (λ y. b ∷ y) (take-less i t more (omega arith))
 
 -- what is counted along the first bytes
-counted : List ℕ → Tally
+unfoldable pub counted : List ℕ → Tally
 counted u = run-tally start nothing u
 
 goes-on-less : (t : List ℕ) (i j : ℕ) → i ≤ j → Goes-on t j → Goes-on t i
@@ -72,11 +72,11 @@ reads-goes-on t p i r =
     run-goes-on t i (reads-begun (take i t) (k .0) p (subst (λ x. Reads x p) (k .1) r))
 
 -- a byte that begins what is too much, as it is counted
-record Over (t : List ℕ) (i : ℕ) : Type 0 where
-  goes : is-stuck (run start (take (suc i) t)) ≡ false
-  passes : Passes (counted (take i t)) (counted (take (suc i) t))
+pub record Over (t : List ℕ) (i : ℕ) : Type 0 where
+  pub goes : is-stuck (run start (take (suc i) t)) ≡ false
+  pub passes : Passes (counted (take i t)) (counted (take (suc i) t))
 
-over-counted : {t : List ℕ} {i : ℕ} → Begins-over t i → Over t i
+pub over-counted : {t : List ℕ} {i : ℕ} → Begins-over t i → Over t i
 unfolding counted
 over-counted {t} {i} h =
     let f = letters (h .writing) in
@@ -111,7 +111,7 @@ counted-over t i l h =
           (subst (λ d. Passes (run-tally start nothing (take i t)) d) (ap (run-tally start nothing) (sym y) ∙ writing-tally (w .writing) (take (suc i) f) (b .0) (b .1)) (h .passes));
     }
 
-passes-too-much : {c d : Tally} → Passes c d → too-much-in d ≡ true
+pub passes-too-much : {c d : Tally} → Passes c d → too-much-in d ≡ true
 unfolding too-much-in
 passes-too-much {d = d} (many e f) = or-left _ _ (lt-ltb 2048 (d .marks) (omega arith))
 passes-too-much {d = d} (deep e f) = or-right _ _ (lt-ltb 8 (d .level) (omega arith))

@@ -22,3 +22,4 @@ pub mod TextLaws
 pub mod HasText
 pub mod Lengths
 pub mod Counts
+pub mod Within

@@ -2,13 +2,14 @@
 use mathlib.Core.Path.{_≡_}
 use mathlib.Core.Bool.{true, false}
 use mathlib.Core.List.{List, [], _∷_, _++_}
-use Prim.Native.Nat.{ℕ, _≤_}
+use Prim.Native.Nat.{ℕ, _*_, _≤_}
 use lib.ListN.{length, take}
 use Rattle.semantics.specs.Programs.{Program}
 use Rattle.program.specs.Spelling.{spell-program}
 use Rattle.grammar.specs.Letters.{Letter, bytes, nothing, tally}
 use Rattle.grammar.specs.Sayable.{Fit-lines, Canonical}
-use Rattle.grammar.specs.Texts.{Writing, letters, Reads, Goes-on, Verdict, Judged}
+use Rattle.grammar.specs.Limits.{marks-of, depth-of}
+use Rattle.grammar.specs.Texts.{Writing, letters, Reads, Goes-on, Verdict, taken, Judged}
 use Rattle.grammar.specs.Automaton.{start, run, run-tally, is-stuck, between, last, steps-of, answer-to, answer-of}
 
 -- a text is one program at most
@@ -47,3 +48,15 @@ pub record Answered (t : List ℕ) : Type 0 where
 
 abbrev pub Answers-verdict : Type 0
 Answers-verdict = (t : List ℕ) → Answered t
+
+-- every program that can be said, with at most 64 names, has a text
+abbrev pub Has-text : Type 0
+Has-text = (p : Program ℕ) (m : ℕ) → Fit-lines Canonical p 0 m → m ≤ 64 → (t : List ℕ) × Reads t p
+
+-- a text has at most 35 bytes a mark
+abbrev pub Short-texts : Type 0
+Short-texts = (t : List ℕ) (p : Program ℕ) → Reads t p → length t ≤ 35 * marks-of p
+
+-- every text of a program of at most 2,048 marks, with agains at most 8 deep, is taken
+abbrev pub Taken-within : Type 0
+Taken-within = (t : List ℕ) (p : Program ℕ) → Reads t p → marks-of p ≤ 2048 → depth-of p ≤ 8 → Judged t (taken p)

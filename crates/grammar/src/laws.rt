@@ -1,5 +1,5 @@
 // Theorems about texts and the automaton, each the contract of a small function.
-ghost use Rattle.grammar.specs.TextLaws.{One-program, Takes-texts, Taken-are-texts, Stuck-where, Counts-marks, One-verdict, Answers-verdict};
+ghost use Rattle.grammar.specs.TextLaws.{One-program, Takes-texts, Taken-are-texts, Stuck-where, Counts-marks, One-verdict, Answers-verdict, Has-text, Short-texts, Taken-within};
 
 // A text is one program at most.
 pub fn one_program_stands() -> u8
@@ -46,6 +46,27 @@ pub fn one_verdict_stands() -> u8
 // The automaton's answer is the verdict.
 pub fn answers_verdict_stands() -> u8
     ensures { λ _. ⌜ Answers-verdict ⌝ }
+{
+    0
+}
+
+// Every program that can be said has a text.
+pub fn has_text_stands() -> u8
+    ensures { λ _. ⌜ Has-text ⌝ }
+{
+    0
+}
+
+// A text has at most 35 bytes a mark.
+pub fn short_texts_stands() -> u8
+    ensures { λ _. ⌜ Short-texts ⌝ }
+{
+    0
+}
+
+// Every text of a program within the limits is taken.
+pub fn taken_within_stands() -> u8
+    ensures { λ _. ⌜ Taken-within ⌝ }
 {
     0
 }
