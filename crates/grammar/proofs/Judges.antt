@@ -66,7 +66,7 @@ goes-on-less t i j h g =
     let k = take-split i j t h in
     run-goes-on t i (stuck-before (take i t) start (k .0) (subst (λ x. is-stuck (run start x) ≡ false) (k .1) (goes-on-run t j g)))
 
-reads-goes-on : (t : List ℕ) (p : Program ℕ) (i : ℕ) → Reads t p → Goes-on t i
+pub reads-goes-on : (t : List ℕ) (p : Program ℕ) (i : ℕ) → Reads t p → Goes-on t i
 reads-goes-on t p i r =
     let k = take-all i t in
     run-goes-on t i (reads-begun (take i t) (k .0) p (subst (λ x. Reads x p) (k .1) r))
@@ -92,7 +92,7 @@ over-counted {t} {i} h =
           (subst (λ d. Passes (tally (take i f)) d) (sym (writing-tally (h .writing) (take (suc i) f) (b .0) (b .1)) ∙ ap (run-tally start nothing) y) (h .over));
     }
 
-counted-over : (t : List ℕ) (i : ℕ) → i < length t → Over t i → Begins-over t i
+pub counted-over : (t : List ℕ) (i : ℕ) → i < length t → Over t i → Begins-over t i
 unfolding counted
 counted-over t i l h =
     let w = run-begun (take (suc i) t) (h .goes) in
@@ -126,7 +126,7 @@ unfolding too-much-in
 calm c h = let p = or-parts (ltb 2048 (c .marks)) (ltb 8 (c .level)) h in record { few = ltb-false 2048 (c .marks) (p .0); flat = ltb-false 8 (c .level) (p .1) }
 
 -- more than may be, with the one flag
-flag-passes : (x : Flag) (c : Tally) → too-much-in c ≡ false → too-much-in (tally-flag x c) ≡ true → Passes c (tally-flag x c)
+pub flag-passes : (x : Flag) (c : Tally) → too-much-in c ≡ false → too-much-in (tally-flag x c) ≡ true → Passes c (tally-flag x c)
 unfolding too-much-in tally-flag
 flag-passes inside c h k = absurd (both-ways (too-much-in c) h k)
 flag-passes begins c h k =

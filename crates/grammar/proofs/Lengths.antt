@@ -213,7 +213,7 @@ depth-of-read (Program.put k ps e p) = depth-of-read p
 depth-of-read (Program.show e p) = depth-of-read p
 depth-of-read (Program.again k b p) = omega (arith, depth-of-read b, depth-of-read p)
 
-length-bytes : (f : List Letter) → length (bytes f) ≡ length f
+pub length-bytes : (f : List Letter) → length (bytes f) ≡ length f
 unfolding bytes
 length-bytes [] = refl
 length-bytes (letter x b ∷ f) = ap suc (length-bytes f)

@@ -23,3 +23,4 @@ pub mod HasText
 pub mod Lengths
 pub mod Counts
 pub mod Within
+pub mod OnlyWithin

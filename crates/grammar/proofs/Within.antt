@@ -38,7 +38,7 @@ unfolding too-much-in
 within-calm c m l = or-from _ _ (le-ltb 2048 (c .marks) m) (le-ltb 8 (c .level) l)
 
 -- the first bytes of a text are those of its writing
-first-bytes : (t : List ℕ) (p : Program ℕ) (r : Reads t p) (i : ℕ) → i ≤ length t → bytes (take i (letters (r .writing))) ≡ take i t
+pub first-bytes : (t : List ℕ) (p : Program ℕ) (r : Reads t p) (i : ℕ) → i ≤ length t → bytes (take i (letters (r .writing))) ≡ take i t
 first-bytes t p r i l =
     bytes-take i (letters (r .writing))
     ∙ ⊎-elim

@@ -60,3 +60,7 @@ Short-texts = (t : List ℕ) (p : Program ℕ) → Reads t p → length t ≤ 35
 -- every text of a program of at most 2,048 marks, with agains at most 8 deep, is taken
 abbrev pub Taken-within : Type 0
 Taken-within = (t : List ℕ) (p : Program ℕ) → Reads t p → marks-of p ≤ 2048 → depth-of p ≤ 8 → Judged t (taken p)
+
+-- and only such a program's text is
+abbrev pub Taken-only-within : Type 0
+Taken-only-within = (t : List ℕ) (p : Program ℕ) → Judged t (taken p) → (marks-of p ≤ 2048) × (depth-of p ≤ 8)

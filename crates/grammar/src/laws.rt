@@ -1,5 +1,5 @@
 // Theorems about texts and the automaton, each the contract of a small function.
-ghost use Rattle.grammar.specs.TextLaws.{One-program, Takes-texts, Taken-are-texts, Stuck-where, Counts-marks, One-verdict, Answers-verdict, Has-text, Short-texts, Taken-within};
+ghost use Rattle.grammar.specs.TextLaws.{One-program, Takes-texts, Taken-are-texts, Stuck-where, Counts-marks, One-verdict, Answers-verdict, Has-text, Short-texts, Taken-within, Taken-only-within};
 
 // A text is one program at most.
 pub fn one_program_stands() -> u8
@@ -67,6 +67,13 @@ pub fn short_texts_stands() -> u8
 // Every text of a program within the limits is taken.
 pub fn taken_within_stands() -> u8
     ensures { λ _. ⌜ Taken-within ⌝ }
+{
+    0
+}
+
+// Only texts of programs within the limits are taken.
+pub fn taken_only_within_stands() -> u8
+    ensures { λ _. ⌜ Taken-only-within ⌝ }
 {
     0
 }
