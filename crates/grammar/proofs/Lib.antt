@@ -19,6 +19,7 @@ pub mod Unspell
 pub mod Accepts
 pub mod Judges
 pub mod TextLaws
+pub mod TextExamples
 pub mod HasText
 pub mod Lengths
 pub mod Counts

@@ -9,3 +9,4 @@ pub mod Texts
 pub mod Moves
 pub mod Automaton
 pub mod TextLaws
+pub mod TextExamples

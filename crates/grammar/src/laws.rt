@@ -1,5 +1,6 @@
 // Theorems about texts and the automaton, each the contract of a small function.
 ghost use Rattle.grammar.specs.TextLaws.{One-program, Takes-texts, Taken-are-texts, Stuck-where, Counts-marks, One-verdict, Answers-verdict, Has-text, Short-texts, Taken-within, Taken-only-within};
+ghost use Rattle.grammar.specs.TextExamples.{Text-examples};
 
 // A text is one program at most.
 pub fn one_program_stands() -> u8
@@ -74,6 +75,13 @@ pub fn taken_within_stands() -> u8
 // Only texts of programs within the limits are taken.
 pub fn taken_only_within_stands() -> u8
     ensures { λ _. ⌜ Taken-only-within ⌝ }
+{
+    0
+}
+
+// The worked examples come out as written.
+pub fn text_examples_stands() -> u8
+    ensures { λ _. ⌜ Text-examples ⌝ }
 {
     0
 }
