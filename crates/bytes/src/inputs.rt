@@ -4,7 +4,7 @@ ghost use Prim.Native.Nat.{_≤_};
 ghost use lib.ListN.{length};
 ghost use Rattle.std.specs.Options.{Cases as BySome};
 ghost use Rattle.std.specs.Results.{Cases};
-ghost use Rattle.bytes.specs.Format.{offsets};
+ghost use Rattle.bytes.specs.Format.{offsets, stop};
 ghost use Rattle.bytes.specs.Inputs.{All-good, Bad-at, Found};
 use crate::header::Flaw;
 use crate::header::Header;
@@ -50,4 +50,18 @@ pub fn find_input(bytes: &[u8], index: usize) -> Option<Header>
         Ok(head) => Some(head),
         Err(_) => None,
     }
+}
+
+// Behind the last of the arrays that lie whole in the bytes, one after another from the first byte on.
+pub fn whole_end(bytes: &[u8]) -> usize
+    ensures { λ r. ⌜ r ≡ stop (now (bytes .entry)) ⌝ }
+{
+    let mut at = 0;
+    while at < bytes.len() {
+        match header_at(bytes, at) {
+            Ok(head) => at = head.next,
+            Err(_) => return at,
+        }
+    }
+    at
 }
