@@ -47,3 +47,32 @@ pub record Holds (area bs : List ℕ) (v : View) (a : Array ℕ) : Type 0 where
   pub there : Reaches (v .source) area bs (v .high)
   pub shaped : shape-of (v .shape) ≡ a .shape
   pub shows : (is : List ℕ) → In (shape-of (v .shape)) is → seen area bs v is ≡ a .at is
+
+-- r looks at the numbers of v: its place is shows what the place `to is` of v shows
+pub record Sees (v r : View) (s : List ℕ) (to : List ℕ → List ℕ) : Type 0 where
+  pub good : Good r
+  pub shaped : shape-of (r .shape) ≡ s
+  pub low : r .low ≡ v .low
+  pub high : r .high ≡ v .high
+  pub source : r .source ≡ v .source
+  pub inside : (is : List ℕ) → In s is → In (shape-of (v .shape)) (to is)
+  pub same : (is : List ℕ) → In s is → address r is ≡ address v (to is)
+
+-- the places lie rows first from the start on, with no gaps
+pub record Packed (v : View) : Type 0 where
+  pub far : (is : List ℕ) → In (shape-of (v .shape)) is → address v is ≡ pos (v .start + flat (shape-of (v .shape)) is)
+
+-- all of a buffer
+pub record Whole (o : Source) (first : ℕ) (s : List ℕ) (r : View) : Type 0 where
+  pub good : Good r
+  pub packed : Packed r
+  pub shaped : shape-of (r .shape) ≡ s
+  pub start : r .start ≡ first
+  pub low : r .low ≡ first
+  pub high : r .high ≡ first + size s
+  pub source : r .source ≡ o
+
+-- an array's numbers stand in the number area rows first, from a word on
+pub record Laid (area : List ℕ) (first : ℕ) (a : Array ℕ) : Type 0 where
+  pub room : first + size (a .shape) ≤ length area
+  pub each : (is : List ℕ) → In (a .shape) is → getD area (first + flat (a .shape) is) 0 ≡ a .at is

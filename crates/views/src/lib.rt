@@ -2,3 +2,4 @@
 pub mod place;
 pub mod strides;
 pub mod view;
+pub mod whole;
