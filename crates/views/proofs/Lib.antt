@@ -3,3 +3,5 @@ pub mod Walks
 pub mod Casts
 pub mod Seeing
 pub mod Rows
+pub mod Copies
+pub mod CopyAxes
