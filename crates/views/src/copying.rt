@@ -4,12 +4,12 @@ ghost use mathlib.Core.List.{List, [], _∷_};
 ghost use Prim.Native.Nat.{ℕ, _+_, _≤_, _<_};
 ghost use lib.IntN.{pos, _+ℤ_, _*ℤ_, natAbs};
 ghost use lib.ListN.{length, getD};
-ghost use Rattle.semantics.specs.Shapes.{size, up-to};
+ghost use Rattle.semantics.specs.Shapes.{size, In, flat, up-to};
 ghost use Rattle.semantics.specs.Arrays.{Array};
 ghost use Rattle.semantics.specs.Programs.{numbers-at};
 ghost use Rattle.bytes.specs.ShapeOf.{shape-of};
 ghost use Rattle.views.specs.declared.view.Source.the-variants.{Area, Input};
-ghost use Rattle.views.specs.Views.{Good, Reaches, Holds, number-from};
+ghost use Rattle.views.specs.Views.{Good, Reaches, Holds, number-from, seen};
 ghost use Rattle.views.specs.Copying.{Moves, Walk, Copied};
 use crate::place::number_at;
 use crate::view::Source;
@@ -113,4 +113,26 @@ fn copy_axes(
             &mut out[first..first + below],
         );
     }
+}
+
+// All numbers of a view, each place once, rows first.
+pub fn copy_out(view: View, area: &[u64], bytes: &[u8], out: &mut [u64])
+    requires good { ⌜ Good view ⌝ }
+    requires there { ⌜ Reaches (view .source) (now area) (now bytes) (view .high) ⌝ }
+    requires room { ⌜ length (now out) ≡ size (shape-of (view .shape)) ⌝ }
+    ensures each { λ _. ⌜ ((is : List ℕ) → In (shape-of (view .shape)) is → getD (now (out .exit)) (flat (shape-of (view .shape)) is) 0 ≡ seen (now (area .entry)) (now (bytes .entry)) view is) ⌝ }
+    ensures holds { λ _. ⌜ ((a : Array ℕ) → Holds (now (area .entry)) (now (bytes .entry)) view a → now (out .exit) ≡ numbers-at a (up-to 0 (size (a .shape)))) ⌝ }
+{
+    let rank = view.shape.rank;
+    let lens = view.shape.lens;
+    let strides = view.strides;
+    copy_axes(
+        view.source,
+        area,
+        bytes,
+        &lens[0..rank],
+        &strides,
+        view.start,
+        out,
+    );
 }
