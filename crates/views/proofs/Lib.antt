@@ -5,3 +5,4 @@ pub mod Seeing
 pub mod Rows
 pub mod Copies
 pub mod CopyAxes
+pub mod Broadcasts
