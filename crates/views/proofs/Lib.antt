@@ -6,3 +6,4 @@ pub mod Rows
 pub mod Copies
 pub mod CopyAxes
 pub mod Broadcasts
+pub mod Slices

@@ -22,6 +22,7 @@ use Rattle.views.specs.declared.view.Source.the-variants.{Area, Input}
 use Rattle.views.specs.declared.view.View.{View}
 use Rattle.views.specs.Walking.{Lies, Walks, Row-major}
 use Rattle.views.specs.Copying.{Walk, Copied}
+use Rattle.views.proofs.Rows.{no-place}
 use Rattle.views.specs.Views.{Good, Reaches, Holds, Sees, Packed, Whole, Laid, address, number-from, seen}
 
 pub good-lies : (v : View) (is : List ℕ) → Good v → In (shape-of (v .shape)) is → Lies (v .low) (v .high) (address v is)
@@ -162,3 +163,8 @@ seen-listed {area} {bs} {out} {v} {a} h long each =
     let low : k < size s = omega arith in
     let inside = in-inside (inside-unflat s k low) in
     ap (λ n. getD out n 0) (sym (flat-unflat s k low)) ∙ (each (unflat s k) inside ∙ (h .shows (unflat s k) inside ∙ ap (λ t. a .at (unflat t k)) (h .shaped)))))
+
+-- a view without places
+pub sees-none : (v r : View) (s : List ℕ) (to : List ℕ → List ℕ) → Good v → r .start < 2 ^ 62 → shape-of (r .shape) ≡ s → r .low ≡ v .low → r .high ≡ v .high → r .source ≡ v .source → size s ≡ 0 → Sees v r s to
+sees-none v r s to g begins shaped low high source none =
+    sees-good v r s to g begins shaped low high source (λ is h. absurd (no-place (inside-in s is h) none)) (λ is h. absurd (no-place (inside-in s is h) none))

@@ -60,6 +60,9 @@ module _ {low high : ℕ} where
   pub apart-fits : {y x : ℤ} → high < 2 ^ 62 → Lies low high y → Lies low high (y +ℤ x) → SFits w64 x
   apart-fits h l m = record { sfits = grind (arith, ints) }
 
+  pub back-fits : {y : ℤ} (x : ℤ) → high < 2 ^ 62 → Lies low high y → Lies low high (y +ℤ x) → SFits w64 (negℤ x)
+  back-fits x h l m = record { sfits = grind (arith, ints) }
+
   pub lies-fits : {y : ℤ} → high < 2 ^ 62 → Lies low high y → SFits w64 y
   lies-fits h l = record { sfits = grind (arith, ints) }
 

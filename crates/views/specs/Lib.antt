@@ -2,3 +2,4 @@ pub mod Walking
 pub mod Views
 pub mod Copying
 pub mod Broadcasting
+pub mod Slicing

@@ -1,7 +1,9 @@
 // Views: an array that looks at numbers that lie somewhere already, by a shape, strides and a start.
 pub mod broadcast;
 pub mod copying;
+pub mod part;
 pub mod place;
+pub mod slice;
 pub mod strides;
 pub mod view;
 pub mod whole;
