@@ -7,3 +7,4 @@ pub mod Copies
 pub mod CopyAxes
 pub mod Broadcasts
 pub mod Slices
+pub mod Turns

@@ -5,5 +5,6 @@ pub mod part;
 pub mod place;
 pub mod slice;
 pub mod strides;
+pub mod transpose;
 pub mod view;
 pub mod whole;
