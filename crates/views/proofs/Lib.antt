@@ -8,3 +8,4 @@ pub mod CopyAxes
 pub mod Broadcasts
 pub mod Slices
 pub mod Turns
+pub mod Packs

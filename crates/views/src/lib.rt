@@ -3,6 +3,7 @@ pub mod broadcast;
 pub mod copying;
 pub mod part;
 pub mod place;
+pub mod reshape;
 pub mod slice;
 pub mod strides;
 pub mod transpose;
