@@ -3,7 +3,7 @@ use mathlib.Core.Path.{_≡_, refl, sym, ap, ap₂, subst, _∙_}
 use mathlib.Core.List.{List, [], _∷_}
 use mathlib.Core.Logic.{_⊎_, inl, inr, ⊎-elim}
 use Prim.Native.Nat.{ℕ, zero, suc, _+_, _*_, _-_, _^_, _≤_, _<_}
-use native.Mathlib.Nat.{mul-comm}
+use native.Mathlib.Nat.{mul-comm, one-mul}
 use native.Mathlib.Numerals.{add-one}
 use native.Mathlib.Omega.{arith}
 use lib.IntN.{ℤ, pos, _+ℤ_, _*ℤ_, natAbs, *ℤ-zero, +ℤ-idl, +ℤ-idr}
@@ -17,7 +17,8 @@ use Rattle.semantics.proofs.Places.{Inside, no-axes, axis, inside-in, in-inside
 use Rattle.bytes.specs.ShapeOf.{shape-of}
 use Rattle.views.specs.declared.view.View.{View}
 use Rattle.views.specs.Walking.{Lies, Walks, Row-major}
-use Rattle.views.specs.Views.{Good, Holds, Sees, Packed, address}
+use Rattle.views.specs.Views.{Good, Reaches, Holds, Sees, Packed, address, number-from, seen}
+use Rattle.views.specs.Copying.{Walk, Copied}
 use Rattle.views.proofs.Integers.{times-one}
 use Rattle.views.proofs.Walks.{zeros, inside-zeros, dot-zeros, dot-more, dot-none, walks-from, walks-inside, walks-more}
 use Rattle.views.proofs.Rows.{size-drop}
@@ -164,3 +165,36 @@ pub size-before : (s : List ℕ) (k : ℕ) → 0 < k → k ≤ length s → size
 size-before s k some l =
     let next : k - 1 + 1 ≡ k = omega arith in
     size-drop s (k - 1) (omega arith) ∙ (ap (λ n. getD s (k - 1) 0 * size (drop n s)) next ∙ mul-comm (getD s (k - 1) 0) (size (drop k s)))
+
+-- ---- packed places as one row
+one-dot : (k : ℕ) → dot (pos 1 ∷ []) (k ∷ []) ≡ pos k
+unfolding dot
+one-dot k = +ℤ-idr (pos 1 *ℤ pos k) ∙ ap pos (one-mul k)
+
+row-lies : (v : View) (is : List ℕ) → Good v → Packed v → Inside (size (shape-of (v .shape)) ∷ []) is → Lies 0 (v .high) (pos (v .start) +ℤ dot (pos 1 ∷ []) is)
+row-lies v [] g w h = elim h [ ]
+row-lies v (i ∷ (j ∷ is)) g w (axis l h) = elim h [ ]
+row-lies v (i ∷ []) g w (axis l no-axes) =
+    let s = shape-of (v .shape) in
+    let inside = in-inside (inside-unflat s i l) in
+    let at = good-lies v (unflat s i) g inside in
+    let same : address v (unflat s i) ≡ pos (v .start) +ℤ dot (pos 1 ∷ []) (i ∷ [])
+    = w .far (unflat s i) inside ∙ (ap (λ n. pos (v .start + n)) (flat-unflat s i l) ∙ ap (λ z. pos (v .start) +ℤ z) (sym (one-dot i)))
+    in
+    record { word = at .word; is = sym same ∙ at .is; above = omega arith; below = at .below }
+
+pub packed-walk : (v : View) (area bs : List ℕ) (n : ℕ) → Good v → Packed v → Reaches (v .source) area bs (v .high) → n ≡ size (shape-of (v .shape)) → Walk (v .source) area bs (n ∷ []) (pos 1 ∷ []) (v .start)
+packed-walk v area bs n g w there many =
+    let row = size (shape-of (v .shape)) ∷ [] in
+    subst (λ m. Walk (v .source) area bs (m ∷ []) (pos 1 ∷ []) (v .start)) (sym many)
+    (record { high = v .high; short = g .short; there = there; walks = record { lies = λ is h. row-lies v is g w (inside-in row is h) } })
+
+pub packed-seen : (v : View) {area bs out : List ℕ} (n : ℕ) → Packed v → n ≡ size (shape-of (v .shape)) → Copied (v .source) area bs (n ∷ []) (pos 1 ∷ []) (v .start) out →
+    (is : List ℕ) → In (shape-of (v .shape)) is → getD out (flat (shape-of (v .shape)) is) 0 ≡ seen area bs v is
+unfolding seen flat
+packed-seen v {area} {bs} {out} n w many row is h =
+    let s = shape-of (v .shape) in
+    let k = flat s is in
+    let low : k < n = omega (arith, flat-below (inside-in s is h)) in
+    ap (λ m. getD out m 0) (omega arith)
+    ∙ (row .each (k ∷ []) (in-inside (axis low no-axes)) ∙ ap (λ z. number-from (v .source) area bs (natAbs z)) (ap (λ z. pos (v .start) +ℤ z) (one-dot k) ∙ sym (w .far is h)))

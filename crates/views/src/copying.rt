@@ -12,6 +12,7 @@ ghost use Rattle.views.specs.declared.view.Source.the-variants.{Area, Input};
 ghost use Rattle.views.specs.Views.{Good, Reaches, Holds, number-from, seen};
 ghost use Rattle.views.specs.Copying.{Moves, Walk, Copied};
 use crate::place::number_at;
+use crate::reshape::is_packed;
 use crate::view::Source;
 use crate::view::View;
 use bytes::words::read_number;
@@ -123,6 +124,10 @@ pub fn copy_out(view: View, area: &[u64], bytes: &[u8], out: &mut [u64])
     ensures each { λ _. ⌜ ((is : List ℕ) → In (shape-of (view .shape)) is → getD (now (out .exit)) (flat (shape-of (view .shape)) is) 0 ≡ seen (now (area .entry)) (now (bytes .entry)) view is) ⌝ }
     ensures holds { λ _. ⌜ ((a : Array ℕ) → Holds (now (area .entry)) (now (bytes .entry)) view a → now (out .exit) ≡ numbers-at a (up-to 0 (size (a .shape)))) ⌝ }
 {
+    if is_packed(view) {
+        copy_row(view.source, area, bytes, view.start, 1, out);
+        return;
+    }
     let rank = view.shape.rank;
     let lens = view.shape.lens;
     let strides = view.strides;

@@ -11,6 +11,7 @@ use Rattle.bytes.specs.ShapeOf.{shape-of}
 use Rattle.views.specs.Views.{address, seen}
 use Rattle.views.specs.Copying.{Walk, Copied}
 use Rattle.views.proofs.Seeing.{view-walk, copied-seen, seen-listed}
+use Rattle.views.proofs.Packs.{packed-walk, packed-seen}
 use Rattle.views.proofs.copying.copy_out.Needs as need
 
 pub part-copy-axes-end : need.part-copy-axes-end
@@ -35,3 +36,14 @@ returns c =
     let same : take (v .shape .rank - 0) (v .shape .lens) ≡ shape-of (v .shape) = ap (λ n. take n (v .shape .lens)) (sub-zero (v .shape .rank)) in
     let each = copied-seen v (subst (λ s. Copied (v .source) (c .args .area .now) (c .args .bytes .now) s (v .strides) (v .start) (c .copy-axes .last .out)) same (c .copy-axes .ensures)) in
     record { each = each; holds = λ a h. seen-listed h (c .copy-axes .kept .out ∙ c .pre .room) each }
+
+pub copy-row-requires : need.copy-row-requires
+copy-row-requires c κs =
+    let packed = c .if-is-packed .ensures tt .0 refl in
+    packed-walk (c .args .view) (c .args .area .now) (c .args .bytes .now) (length (c .args .out .now)) (c .pre .good) packed (c .pre .there) (c .pre .room)
+
+pub returns-then-is-packed : need.returns-then-is-packed
+returns-then-is-packed c =
+    let packed = c .if-is-packed .ensures tt .0 refl in
+    let each = packed-seen (c .args .view) (length (c .args .out .now)) packed (c .pre .room) (c .copy-row .ensures) in
+    record { each = each; holds = λ a h. seen-listed h (c .copy-row .kept .out ∙ c .pre .room) each }
