@@ -9,3 +9,4 @@ pub mod Broadcasts
 pub mod Slices
 pub mod Turns
 pub mod Packs
+pub mod Keeping

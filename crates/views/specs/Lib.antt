@@ -3,3 +3,4 @@ pub mod Views
 pub mod Copying
 pub mod Broadcasting
 pub mod Slicing
+pub mod Laws

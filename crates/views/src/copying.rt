@@ -48,11 +48,11 @@ fn copy_numbers(bytes: &[u8], base: usize, from: usize, stride: i64, out: &mut [
     requires { ⌜ Walk (Input base) [] (now bytes) (length (now out) ∷ []) (stride ∷ []) from ⌝ }
     ensures { λ _. ⌜ ((j : ℕ) → j < length (now (out .entry)) → getD (now (out .exit)) j 0 ≡ number-from (Input base) [] (now (bytes .entry)) (natAbs (pos from +ℤ stride *ℤ pos j))) ⌝ }
 {
-    for i in 0..out.len() {
-        let Some(x) = read_number(bytes, base + 8 * step_to(from, stride, i)) else {
+    for k in 0..out.len() {
+        let Some(x) = read_number(bytes, base + 8 * step_to(from, stride, k)) else {
             return unreachable();
         };
-        out[i] = x;
+        out[k] = x;
     }
 }
 

@@ -7,5 +7,5 @@ use Rattle.views.specs.declared.view.Source.the-variants.{Input}
 use Rattle.views.specs.Views.{number-from}
 use Rattle.views.proofs.copying.copy_numbers.Given as given
 
-abbrev pub Inv-loop-i : given.InvT-loop-i
-Inv-loop-i l = (j : ℕ) → j < l .i → getD (l .out) j 0 ≡ number-from (Input (l .base)) [] (l .bytes) (natAbs (pos (l .from) +ℤ l .stride *ℤ pos j))
+abbrev pub Inv-loop-k : given.InvT-loop-k
+Inv-loop-k l = (j : ℕ) → j < l .k → getD (l .out) j 0 ≡ number-from (Input (l .base)) [] (l .bytes) (natAbs (pos (l .from) +ℤ l .stride *ℤ pos j))
