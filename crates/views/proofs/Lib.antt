@@ -10,3 +10,4 @@ pub mod Slices
 pub mod Turns
 pub mod Packs
 pub mod Keeping
+pub mod Shifts

@@ -61,6 +61,7 @@ unfolding address
 sees-good v r s to g begins shaped low high source inside same =
     record {
       good = record {
+        up = omega (arith, g .up);
         short = omega (arith, g .short);
         begins = begins;
         walks = record {
@@ -90,6 +91,7 @@ whole-good o first s r few shaped rows start low high source =
     in
     record {
       good = record {
+        up = omega arith;
         short = omega arith;
         begins = omega arith;
         walks = record {

@@ -4,3 +4,4 @@ pub mod Copying
 pub mod Broadcasting
 pub mod Slicing
 pub mod Laws
+pub mod Shifting

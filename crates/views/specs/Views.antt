@@ -21,6 +21,7 @@ address v is = pos (v .start) +ℤ dot (v .strides) is
 
 -- every place's address lies in low..high, and none is too large for sums of addresses
 pub record Good (v : View) : Type 0 where
+  pub up : v .low ≤ v .high
   pub short : v .high < 2 ^ 62
   pub begins : v .start < 2 ^ 62
   pub walks : Walks (v .low) (v .high) (shape-of (v .shape)) (v .strides) (pos (v .start))

@@ -5,6 +5,7 @@ pub mod laws;
 pub mod part;
 pub mod place;
 pub mod reshape;
+pub mod shift;
 pub mod slice;
 pub mod strides;
 pub mod transpose;
