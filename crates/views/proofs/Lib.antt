@@ -1,0 +1,13 @@
+pub mod Integers
+pub mod Walks
+pub mod Casts
+pub mod Seeing
+pub mod Rows
+pub mod Copies
+pub mod CopyAxes
+pub mod Broadcasts
+pub mod Slices
+pub mod Turns
+pub mod Packs
+pub mod Keeping
+pub mod Shifts
