@@ -1,0 +1,9 @@
+pub mod WordLaws
+pub mod NameLaws
+pub mod Along
+pub mod NumberAlong
+pub mod NameAlong
+pub mod Emits
+pub mod Pieces
+pub mod ListAlong
+pub mod ExprAlong
