@@ -7,3 +7,4 @@ pub mod Emits
 pub mod Pieces
 pub mod ListAlong
 pub mod ExprAlong
+pub mod LinesAlong
