@@ -1,1 +1,2 @@
 mod Sought
+mod Spelled

@@ -1,3 +1,6 @@
 // Reads texts of programs: steps, or the refusal and its place.
+mod follows;
 mod letters;
+mod names;
+mod pushes;
 mod words;
