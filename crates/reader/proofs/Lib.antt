@@ -1,2 +1,3 @@
 mod Sought
 mod Spelled
+mod Turnings
