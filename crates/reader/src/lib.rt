@@ -5,4 +5,5 @@ mod letters;
 mod names;
 mod pushes;
 mod turn;
+mod turns;
 mod words;
