@@ -1,3 +1,11 @@
 mod Sought
 mod Spelled
 mod Turnings
+mod Depths
+mod Legal
+mod Replacing
+mod Keeping
+mod Settling
+mod Lines
+mod AtEnd
+mod OnWay
