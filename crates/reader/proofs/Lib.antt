@@ -9,3 +9,4 @@ mod Settling
 mod Lines
 mod AtEnd
 mod OnWay
+mod Ways

@@ -65,6 +65,10 @@ way-start t m steps places good is long wide =
       marks = ap (λ q. places-from q 0 t) (sym is);
     }
 
+-- behind the last byte
+pub at-end : (t : List ℕ) (i : ℕ) (m : Machine) (c : Count) (said : ℕ) (steps : List Step) (places : List ℕ) → i ≡ length t → On-way t i m c said steps places → On-way t (length t) m c said steps places
+at-end t i m c said steps places e on = subst (λ n. On-way t n m c said steps places) e on
+
 -- ONE BYTE
 
 module _ (q : State) (c : Tally) (t : List ℕ) (i : ℕ) (there : i < length t) where
