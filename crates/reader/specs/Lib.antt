@@ -1,0 +1,6 @@
+pub mod Tables
+pub mod Pushed
+pub mod Names
+pub mod Turning
+pub mod Machines
+pub mod Judging
