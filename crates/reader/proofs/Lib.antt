@@ -10,3 +10,4 @@ mod Lines
 mod AtEnd
 mod OnWay
 mod Ways
+mod Writing

@@ -4,3 +4,5 @@ pub mod Names
 pub mod Turning
 pub mod Machines
 pub mod Judging
+pub mod Refusals
+pub mod Reading
