@@ -11,7 +11,7 @@ use Rattle.grammar.specs.declared.symbol.Symbol.{Symbol}
 use Rattle.grammar.specs.Letters.{inside, begins}
 use Rattle.grammar.specs.Words.{Word, begins-some, binary-word, binaries, is-digit}
 use Rattle.grammar.specs.Moves.{Move, stop, move, push, when, viable, viable-name, moves}
-use Rattle.grammar.specs.Automaton.{State, stuck, at, top-move, moved, is-lines, between, steps-of}
+use Rattle.grammar.specs.Automaton.{State, stuck, at, top-move, moved, is-lines, between, onto, steps-of}
 use Rattle.reader.specs.Judging.{is-newline, only-lines, line-ends}
 use Rattle.reader.proofs.Depths.{pendings}
 
@@ -37,7 +37,7 @@ module _ (ns : List Word) (out : List Step) (rest : List Symbol) (w : Word) (v :
   newline-byte c true = between-is ns out rest [] 0
   newline-byte c false = refl
 
-  said-byte : (c : ℕ) (x : Bool) → x ≡ true → steps-of (moved (when x (push [])) (at ns out (Symbol.Byte c ∷ rest) w v)) ≡ out
+  said-byte : (c : ℕ) (x : Bool) → x ≡ true → steps-of (moved (when x (push [])) (at ns out (Symbol.Byte c ∷ rest) w v)) ≡ onto out []
   unfolding when push moved steps-of
   said-byte c true e = refl
   said-byte c false e = absurd (false≢true e)
@@ -62,7 +62,7 @@ module _ (ns : List Word) (out : List Step) (rest : List Symbol) (w : Word) (v :
   newline (Symbol.Item k) = refl
   newline (Symbol.Step f) = refl
 
-  pub said-newline : (s : Symbol) → is-newline s ≡ true → steps-of (moved (moves ns s w v 10) (at ns out (s ∷ rest) w v)) ≡ out
+  pub said-newline : (s : Symbol) → is-newline s ≡ true → steps-of (moved (moves ns s w v 10) (at ns out (s ∷ rest) w v)) ≡ onto out []
   unfolding moves
   said-newline Symbol.Lines e = absurd (false≢true e)
   said-newline Symbol.Body e = absurd (false≢true e)
@@ -86,7 +86,7 @@ unfolding line-ends top-move moved between
 ends-between ns out [] w v = refl
 ends-between ns out (s ∷ rest) w v = newline ns out rest w v s
 
-pub ends-said : (ns : List Word) (out : List Step) (ss : List Symbol) (w : Word) (v : ℕ) → line-ends ss ≡ true → steps-of (moved (top-move (at ns out ss w v) 10) (at ns out ss w v)) ≡ out
+pub ends-said : (ns : List Word) (out : List Step) (ss : List Symbol) (w : Word) (v : ℕ) → line-ends ss ≡ true → steps-of (moved (top-move (at ns out ss w v) 10) (at ns out ss w v)) ≡ onto out []
 unfolding line-ends top-move
 ends-said ns out [] w v e = absurd (false≢true e)
 ends-said ns out (s ∷ rest) w v e = said-newline ns out rest w v s (and-parts (is-newline s) (only-lines rest) e .0)

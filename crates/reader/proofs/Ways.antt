@@ -1,7 +1,7 @@
 -- The ways of the loop over a text, and of its end.
 use mathlib.Core.Path.{_≡_, refl, sym, ap, subst, _∙_}
 use mathlib.Core.Bool.{Bool, true, false, _||_}
-use mathlib.Core.List.{List, [], _∷_, _++_, reverse}
+use mathlib.Core.List.{List, [], _∷_, _++_, reverse, reverseAux}
 use Prim.Native.Nat.{ℕ, suc, _+_, _-_, _*_, _≤_, _<_, min}
 use native.Mathlib.Omega.{arith}
 use lib.Dec.{ltb, eqb}
@@ -16,7 +16,7 @@ use Rattle.program.specs.declared.step.Step.{Step}
 use Rattle.grammar.specs.declared.symbol.Symbol.{Symbol}
 use Rattle.grammar.specs.Letters.{Flag, Tally, tally-flag}
 use Rattle.grammar.specs.Words.{Word}
-use Rattle.grammar.specs.Automaton.{State, stuck, at, settle, top-move, moved, next, next-flag, between, steps-of, last, Answer, took, refused-7, refused-8, too-much-in, judge, answer-to}
+use Rattle.grammar.specs.Automaton.{State, stuck, at, settle, top-move, moved, next, next-flag, between, onto, steps-of, last, Answer, took, refused-7, refused-8, too-much-in, judge, answer-to}
 use Rattle.reader.specs.declared.machine.Machine.{Machine}
 use Rattle.reader.specs.declared.turn.Mark.{Mark}
 use Rattle.reader.specs.declared.stepping.Advance.{Advance}
@@ -44,6 +44,14 @@ marks-more Mark.Inside i c = omega arith
 marks-more Mark.Begins i c = omega arith
 marks-more Mark.Opens i c = omega arith
 marks-more Mark.Closes i c = omega arith
+
+-- the automaton has its steps the last one first
+onto-reverseAux : (xs ys o : List Step) → onto (reverseAux xs ys) o ≡ onto ys (xs ++ o)
+onto-reverseAux [] ys o = refl
+onto-reverseAux (x ∷ xs) ys o = onto-reverseAux xs (x ∷ ys) o
+
+onto-reverse : (xs : List Step) → onto (reverse xs) [] ≡ xs
+onto-reverse xs = onto-reverseAux xs [] [] ∙ append-nil xs
 
 same-back : (o : Option Step) → reverse (listOf o) ≡ listOf o
 same-back None = refl
@@ -165,9 +173,9 @@ module _ (t : List ℕ) (i : ℕ) (m : Machine) (c : Count) (said : ℕ) (steps 
     unfolding state-of
     at-between = between-is _ (reverse (take said steps)) (drop (m .top) (m .stack)) _ (m .value)
 
-    steps-now : steps-of (state-with t i m said steps) ≡ reverse (take said steps)
+    steps-now : steps-of (state-with t i m said steps) ≡ take said steps
     unfolding state-of steps-of
-    steps-now = refl
+    steps-now = onto-reverse (take said steps)
 
     pub way-lines : true ≡ only-lines (drop (m .top) (m .stack)) → Reads-text t steps places (Verdict.Taken said)
     unfolding judge last
@@ -205,7 +213,7 @@ module _ (t : List ℕ) (i : ℕ) (m : Machine) (c : Count) (said : ℕ) (steps 
         unfolding state-of
         between-now = ends-between _ (listOf (x .step) ++ reverse (take said steps)) (drop (new .top) (new .stack)) _ (new .value)
 
-        said-last : line-ends (drop (new .top) (new .stack)) ≡ true → steps-of (moved (top-move (state-of t i new (listOf (x .step) ++ reverse (take said steps))) 10) (state-of t i new (listOf (x .step) ++ reverse (take said steps)))) ≡ listOf (x .step) ++ reverse (take said steps)
+        said-last : line-ends (drop (new .top) (new .stack)) ≡ true → steps-of (moved (top-move (state-of t i new (listOf (x .step) ++ reverse (take said steps))) 10) (state-of t i new (listOf (x .step) ++ reverse (take said steps)))) ≡ onto (listOf (x .step) ++ reverse (take said steps)) []
         unfolding state-of
         said-last done = ends-said _ (listOf (x .step) ++ reverse (take said steps)) (drop (new .top) (new .stack)) _ (new .value) done
 
@@ -228,7 +236,7 @@ module _ (t : List ℕ) (i : ℕ) (m : Machine) (c : Count) (said : ℕ) (steps 
             let q = moved (top-move (state-of t i new (listOf (x .step) ++ reverse (take said steps))) 10) (state-of t i new (listOf (x .step) ++ reverse (take said steps))) in
             let all : said' ≡ c .marks =
             omega (arith, sound-of (tally-of c) t i new (listOf (x .step) ++ reverse (take said steps)) sound-last .pend, length-append (listOf (x .step)) (reverse (take said steps)), length-said, none-pending-last (drop (new .top) (new .stack)) (sym done)) in (
-              answer-end q now-is ∙ (ap (λ y. pick y (took (steps-of q)) (refused-7 i)) (between-now ∙ sym done) ∙ ap took (said-last (sym done) ∙ sym says)),
+              answer-end q now-is ∙ (ap (λ y. pick y (took (steps-of q)) (refused-7 i)) (between-now ∙ sym done) ∙ ap took (said-last (sym done) ∙ (ap (λ xs. onto xs []) (sym says) ∙ onto-reverse (take said' steps')))),
               ap (λ n. take n places) all ∙ sym places-end,
               omega (arith, room-last),
             )

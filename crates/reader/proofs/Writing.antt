@@ -105,8 +105,8 @@ module _ (old now : List ℕ) (n k : ℕ) (steps : List Step) (places : List ℕ
 
 -- WHAT IS ANSWERED
 
-length-back : (n : ℕ) (steps : List Step) → length steps ≡ 2048 → n ≤ 2048 → length (reverse (take n steps)) ≡ n
-length-back n steps long few = length-reverse (take n steps) ∙ length-take-le n steps (omega arith)
+length-back : (n : ℕ) (steps : List Step) → length steps ≡ 2048 → n ≤ 2048 → length (take n steps) ≡ n
+length-back n steps long few = length-take-le n steps (omega arith)
 
 pub verdict-is : (t : List ℕ) (steps : List Step) (places : List ℕ) (r : Verdict) → length steps ≡ 2048 → Reads-text t steps places r → r ≡ verdict-of (answer-to t)
 unfolding verdict-of
@@ -115,23 +115,23 @@ verdict-is t steps places (Verdict.NoProgram i) long is = ap verdict-of (sym is)
 verdict-is t steps places (Verdict.TooMuch i) long is = ap verdict-of (sym is)
 
 module _ (t : List ℕ) (steps : List Step) (places : List ℕ) (n lent : ℕ) (long : length steps ≡ 2048) (read : Reads-text t steps places (Verdict.Taken n)) where
-  back-is : 16 * length (reverse (take n steps)) ≡ 16 * n
+  back-is : 16 * length (take n steps) ≡ 16 * n
   back-is = ap (λ k. 16 * k) (length-back n steps long (read .2))
 
   pub short-is : lent < 16 * n → Err Refusal.ShortWords ≡ result-of (answer-to t) lent
   unfolding result-of
   short-is few =
-      sym (ap (λ a. result-of a lent) (read .0) ∙ ap (λ x. pick x (Err Refusal.ShortWords) (Ok (length (reverse (take n steps))))) (lt-ltb lent (16 * length (reverse (take n steps))) (omega (arith, back-is))))
+      sym (ap (λ a. result-of a lent) (read .0) ∙ ap (λ x. pick x (Err Refusal.ShortWords) (Ok (length (take n steps)))) (lt-ltb lent (16 * length (take n steps)) (omega (arith, back-is))))
 
   pub taken-is : 16 * n ≤ lent → Ok n ≡ result-of (answer-to t) lent
   unfolding result-of
   taken-is enough =
       sym (ap (λ a. result-of a lent) (read .0)
-      ∙ (ap (λ x. pick x (Err Refusal.ShortWords) (Ok (length (reverse (take n steps))))) (le-ltb lent (16 * length (reverse (take n steps))) (omega (arith, back-is))) ∙ ap Ok (length-back n steps long (read .2))))
+      ∙ (ap (λ x. pick x (Err Refusal.ShortWords) (Ok (length (take n steps)))) (le-ltb lent (16 * length (take n steps)) (omega (arith, back-is))) ∙ ap Ok (length-back n steps long (read .2))))
 
   pub steps-are : take n steps ≡ steps-said (answer-to t)
   unfolding steps-said
-  steps-are = sym (ap steps-said (read .0) ∙ reverse-reverse (take n steps))
+  steps-are = sym (ap steps-said (read .0))
 
   pub written-is : (old new : List ℕ) → Written old new n (take n steps) (take n places) → Written old new n (steps-said (answer-to t)) (mark-places t)
   written-is old new w = record { are = w .are ∙ steps-are; stand = w .stand ∙ read .1; rest = w .rest }

@@ -1,7 +1,7 @@
 -- Texts judged.
 use mathlib.Core.Path.{_≡_}
 use mathlib.Core.Bool.{Bool, true, false, _&&_}
-use mathlib.Core.List.{List, [], _∷_, _++_, reverse}
+use mathlib.Core.List.{List, [], _∷_, _++_}
 use Prim.Native.Nat.{ℕ, suc, _+_, _≤_, _<_}
 use lib.Dec.{eqb}
 use lib.ListN.{length, take, drop}
@@ -70,6 +70,6 @@ mark-places t = places-from start 0 t
 
 -- steps in order, with their places; or why and where there are none
 abbrev pub Reads-text : List ℕ → List Step → List ℕ → Verdict → Type 0
-Reads-text t steps places (Verdict.Taken n) = (answer-to t ≡ took (reverse (take n steps))) × (take n places ≡ mark-places t) × (n ≤ 2048)
+Reads-text t steps places (Verdict.Taken n) = (answer-to t ≡ took (take n steps)) × (take n places ≡ mark-places t) × (n ≤ 2048)
 Reads-text t steps places (Verdict.NoProgram i) = answer-to t ≡ refused-7 i
 Reads-text t steps places (Verdict.TooMuch i) = answer-to t ≡ refused-8 i

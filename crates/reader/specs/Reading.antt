@@ -1,6 +1,6 @@
 -- What reading a text gives, from the automaton's answer.
 use mathlib.Core.Path.{_≡_}
-use mathlib.Core.List.{List, [], _∷_, reverse}
+use mathlib.Core.List.{List, [], _∷_}
 use Prim.Native.Nat.{ℕ, _*_, _≤_}
 use lib.Dec.{ltb}
 use lib.ListN.{length, take, drop}
@@ -22,7 +22,7 @@ verdict-of (refused-8 i) = Verdict.TooMuch i
 
 -- the steps of a text's program, in order
 unfoldable pub steps-said : Answer → List Step
-steps-said (took es) = reverse es
+steps-said (took es) = es
 steps-said (refused-7 i) = []
 steps-said (refused-8 i) = []
 
