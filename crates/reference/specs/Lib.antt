@@ -1,0 +1,2 @@
+pub mod IndicesOf
+pub mod ArrayOf
