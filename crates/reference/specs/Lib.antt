@@ -1,2 +1,3 @@
 pub mod IndicesOf
 pub mod ArrayOf
+pub mod Broadcasts
