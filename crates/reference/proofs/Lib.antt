@@ -1,0 +1,3 @@
+pub mod Broadcasting
+pub mod Filling
+pub mod Numbering

@@ -1,0 +1,3 @@
+pub mod IndicesOf
+pub mod ArrayOf
+pub mod Broadcasts

@@ -1,0 +1,8 @@
+// A plain interpreter of the array language: every operation makes a new array with numbers of its own. There are
+// no views, and nothing is shared, so that the code stays close to what the language says.
+pub mod array;
+pub mod broadcast;
+pub mod create;
+pub mod elementwise;
+pub mod place;
+pub mod tabulate;
