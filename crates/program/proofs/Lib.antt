@@ -2,3 +2,5 @@ pub mod Storing
 pub mod Views
 pub mod Lengths
 pub mod Nodes
+pub mod Alone
+pub mod Closings

@@ -2,3 +2,5 @@ pub mod Spelling
 pub mod Marks
 pub mod Words
 pub mod Standing
+pub mod StepLaws
+pub mod Closing
