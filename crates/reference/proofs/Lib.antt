@@ -1,3 +1,4 @@
 pub mod Broadcasting
+pub mod Cells
 pub mod Filling
 pub mod Numbering

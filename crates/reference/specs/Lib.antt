@@ -1,3 +1,5 @@
 pub mod IndicesOf
 pub mod ArrayOf
 pub mod Broadcasts
+pub mod Faults
+pub mod CellsOf

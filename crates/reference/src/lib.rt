@@ -4,5 +4,7 @@ pub mod array;
 pub mod broadcast;
 pub mod create;
 pub mod elementwise;
+pub mod fault;
+pub mod names;
 pub mod place;
 pub mod tabulate;
