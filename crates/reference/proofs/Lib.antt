@@ -2,3 +2,4 @@ pub mod Broadcasting
 pub mod Cells
 pub mod Filling
 pub mod Numbering
+pub mod Rights

@@ -3,3 +3,5 @@ pub mod ArrayOf
 pub mod Broadcasts
 pub mod Faults
 pub mod CellsOf
+pub mod Finishing
+pub mod Right

@@ -5,6 +5,8 @@ pub mod broadcast;
 pub mod create;
 pub mod elementwise;
 pub mod fault;
+pub mod load;
+pub mod made;
 pub mod names;
 pub mod place;
 pub mod tabulate;
