@@ -78,3 +78,7 @@ right-ok (right-made h) = h
 -- in place of an equal value
 pub right-is : {v w : Value ℕ} {r : Result Made Stop} → v ≡ w → Right w r → Right v r
 right-is {r = r} e h = subst (λ x. Right x r) (sym e) h
+
+-- what `finish` answers
+pub right-finish : (n c t : ℕ) (a : Array ℕ) (r : Result owned.Array AllocError) (out : Result Made Stop) → out ≡ finished r t → vec.made r (λ b. Alike (array-of b) a) → t ≡ c + size (a .shape) → t ≤ n → Right (made n c a) out
+right-finish n c t a r out o h e l = subst (λ x. Right (made n c a) x) (sym o) (right-finished n c t a r h e l)

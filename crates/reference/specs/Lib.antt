@@ -5,3 +5,5 @@ pub mod Faults
 pub mod CellsOf
 pub mod Finishing
 pub mod Right
+pub mod Operands
+pub mod Brackets

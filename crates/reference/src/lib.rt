@@ -1,10 +1,13 @@
 // A plain interpreter of the array language: every operation makes a new array with numbers of its own. There are
 // no views, and nothing is shared, so that the code stays close to what the language says.
 pub mod array;
+pub mod brackets;
 pub mod broadcast;
 pub mod create;
 pub mod elementwise;
+pub mod evaluate;
 pub mod fault;
+pub mod leaf;
 pub mod load;
 pub mod made;
 pub mod names;
