@@ -1,3 +1,6 @@
+pub mod Axes
 pub mod Broadcasting
 pub mod Filling
+pub mod Measures
 pub mod Numbering
+pub mod Tables

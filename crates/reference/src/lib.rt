@@ -5,4 +5,6 @@ pub mod broadcast;
 pub mod create;
 pub mod elementwise;
 pub mod place;
+pub mod reduce;
+pub mod shapes;
 pub mod tabulate;
