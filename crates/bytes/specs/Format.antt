@@ -1,11 +1,13 @@
 -- An array in bytes, from an index on: the number of axes (one byte), the lengths (four bytes each), the numbers (eight bytes each, rows first).
 use mathlib.Core.Bool.{Bool, true, false, _&&_}
-use mathlib.Core.List.{List, [], _∷_, _++_}
+use mathlib.Core.List.{List, [], _∷_, _++_, map}
 use Prim.Native.Nat.{ℕ, zero, suc, _+_, _*_}
 use lib.Dec.{leb}
 use lib.ListN.{length, getD}
-use Rattle.semantics.specs.Shapes.{pick, size}
-use Rattle.bytes.specs.Words.{word4}
+use Rattle.semantics.specs.Shapes.{pick, size, flat}
+use Rattle.semantics.specs.Arrays.{Array}
+use Rattle.numbers.specs.Binary64.{canonical-bits}
+use Rattle.bytes.specs.Words.{word4, word8}
 
 unfoldable pub rank-at : List ℕ → ℕ → ℕ
 rank-at bs i = getD bs i 0
@@ -34,6 +36,15 @@ unfoldable pub good-at : List ℕ → ℕ → Bool
 unfolding rank-at next-at
 good-at bs i = leb (rank-at bs i) 8 && leb (next-at bs i) (length bs)
 
+-- a number: eight bytes, a NaN of any bits as the one
+unfoldable pub number-at : List ℕ → ℕ → ℕ
+unfolding word8 canonical-bits
+number-at bs i = canonical-bits (word8 bs i)
+
+unfoldable pub array-at : List ℕ → ℕ → Array ℕ
+unfolding shape-at start-at number-at flat
+array-at bs i = record { shape = shape-at bs i; at = λ is. number-at bs (start-at bs i + 8 * flat (shape-at bs i) is) }
+
 -- inputs one after another: where the good ones begin, and where reading stops, at the end of the bytes or at the first that is not good
 pub record Row : Type 0 where
   pub offsets : List ℕ
@@ -59,3 +70,8 @@ offsets bs = row-at bs 0 .offsets
 unfoldable pub stop : List ℕ → ℕ
 unfolding row-at
 stop bs = row-at bs 0 .stop
+
+-- the arrays that the inputs are
+unfoldable pub inputs-of : List ℕ → List (Array ℕ)
+unfolding array-at offsets
+inputs-of bs = map (array-at bs) (offsets bs)

@@ -4,3 +4,4 @@ pub mod Format
 pub mod Headers
 pub mod Inputs
 pub mod Writing
+pub mod ReadBack

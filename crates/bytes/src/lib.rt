@@ -2,6 +2,7 @@
 // (four bytes each) and its numbers (eight bytes each, rows first). Inputs lie one after another.
 pub mod header;
 pub mod inputs;
+pub mod laws;
 pub mod shape;
 pub mod words;
 pub mod writing;

@@ -4,6 +4,8 @@ ghost use Prim.Native.Nat.{_+_, _<_, _≤_};
 ghost use lib.ListN.{length};
 ghost use Rattle.std.specs.Options.{Cases as BySome};
 ghost use Rattle.bytes.specs.Words.{word4, word8};
+ghost use Rattle.bytes.specs.Format.{number-at};
+use numbers::canonical;
 
 // The word of four bytes at `at`, or none where the slice ends before it does.
 pub fn read_u32(bytes: &[u8], at: usize) -> Option<u32>
@@ -32,4 +34,14 @@ pub fn read_u64(bytes: &[u8], at: usize) -> Option<u64>
         bytes[at + 6],
         bytes[at + 7],
     ]))
+}
+
+// The number at `at`, a NaN of any bits as the one, or none where the slice ends before it does.
+pub fn read_number(bytes: &[u8], at: usize) -> Option<u64>
+    ensures { λ r. ⌜ BySome r (length (now (bytes .entry)) < at + 8) (λ x. (at + 8 ≤ length (now (bytes .entry))) × (x ≡ number-at (now (bytes .entry)) at)) ⌝ }
+{
+    let Some(word) = read_u64(bytes, at) else {
+        return None;
+    };
+    Some(canonical(word))
 }

@@ -3,6 +3,7 @@ use mathlib.Core.Path.{_≡_, refl}
 use mathlib.Core.Bool.{Bool}
 use Prim.Native.Nat.{ℕ}
 use Rattle.semantics.specs.declared.operation.Unary.the-variants.{Neg, Abs, Sqrt, Floor, Not}
+use Rattle.semantics.specs.declared.operation.Binary.{Binary}
 use Rattle.semantics.specs.declared.operation.Binary.the-variants.{Add, Sub, Mul, Div, Less, Same, Least, Most}
 use Rattle.numbers.specs.Binary64.{neg-bits, abs-bits, sqrt-bits, floor-bits, truth-bits, not-bits, add-bits, sub-bits, mul-bits, div-bits, less-bits, same-bits, least-bits, most-bits, whole-bits, index-bits}
 use Rattle.numbers.specs.Operations.{binary64, unary-bits, binary-bits, empty-bits}
@@ -70,3 +71,7 @@ index-is a = refl
 pub of-is : (n : ℕ) → binary64 .of n ≡ whole-bits n
 unfolding binary64
 of-is n = refl
+
+pub empty-is : (k : Binary) → binary64 .empty k ≡ empty-bits k
+unfolding binary64
+empty-is k = refl

@@ -1,4 +1,4 @@
--- Laws that later crates cite: which operation each field of the record is, and that all of them give patterns.
+-- Laws that later crates cite: which operation each field of the record is, that all of them give patterns, and what an index is.
 mod Values
 pub mod Fields
 pub mod Written

@@ -1,1 +1,4 @@
 pub mod Spelling
+pub mod Marks
+pub mod Words
+pub mod Standing

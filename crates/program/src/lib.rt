@@ -1,2 +1,3 @@
 // A program as steps: one step a mark of its text, in prefix order, in a lent slice of words.
 pub mod step;
+pub mod words;

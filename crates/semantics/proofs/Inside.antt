@@ -17,56 +17,7 @@ use Rattle.semantics.specs.Broadcast.{joins, joined, fit, wide, pinned, narrow
 use Rattle.semantics.specs.Parts.{Part, place-of, part-fits, parts-fit, part-shape, places-of, apart, in-part, in-parts, which-one}
 use Rattle.semantics.specs.Orders.{among, all-among, is-order, turned, where-in, turned-from, turned-back}
 use Rattle.semantics.proofs.Picks.{pick-told}
-
--- a place of a shape, axis by axis
-pub data Inside : List ℕ → List ℕ → Type 0 where
-  no-axes : Inside [] []
-  axis : {d i : ℕ} {ds is : List ℕ} → i < d → Inside ds is → Inside (d ∷ ds) (i ∷ is)
-
-pub inside-in : (s is : List ℕ) → In s is → Inside s is
-unfolding In
-inside-in [] [] h = no-axes
-inside-in [] (i ∷ is) h = absurd (omega (arith, h .0))
-inside-in (d ∷ s) [] h = absurd (omega (arith, h .0))
-inside-in (d ∷ s) (i ∷ is) h =
-    axis (h .1 0 (omega arith)) (inside-in s is (omega (arith, h .0), λ k l. h .1 (suc k) (omega arith)))
-
-pub length-inside : {s is : List ℕ} → Inside s is → length is ≡ length s
-length-inside no-axes = refl
-length-inside (axis l h) = ap suc (length-inside h)
-
-pub getD-inside : {s is : List ℕ} (k : ℕ) → Inside s is → k < length s → getD is k 0 < getD s k 0
-getD-inside k no-axes l = absurd (omega arith)
-getD-inside zero (axis i h) l = i
-getD-inside (suc k) (axis i h) l = getD-inside k h (omega arith)
-
-pub in-inside : {s is : List ℕ} → Inside s is → In s is
-unfolding In
-in-inside h = (length-inside h, λ k l. getD-inside k h l)
-
--- ---- numbers of places
-pub flat-below : {s is : List ℕ} → Inside s is → flat s is < size s
-unfolding flat size
-flat-below no-axes = omega arith
-flat-below (axis i h) = digits-lt i (flat-below h)
-
-pub inside-unflat : (s : List ℕ) (n : ℕ) → n < size s → Inside s (unflat s n)
-unfolding unflat size
-inside-unflat [] n h = no-axes
-inside-unflat (d ∷ s) n h = axis (div-below n (size s) d some h) (inside-unflat s (n % size s) (mod-below n (size s) some))
-  where
-    none : (x : ℕ) → size s ≡ x → 0 < size s
-    none zero e = absurd (omega (arith, ap (λ x. d * x) e ∙ mul-zero d))
-    none (suc x) e = omega arith
-
-    some : 0 < size s
-    some = none (size s) refl
-
-pub unflat-flat : {s is : List ℕ} → Inside s is → unflat s (flat s is) ≡ is
-unfolding unflat flat
-unflat-flat no-axes = refl
-unflat-flat (axis {i = i} {ds = ds} {is = is} l h) =
-    rw (digits-div i (flat-below h), digits-mod i (flat-below h), unflat-flat h)
+use Rattle.semantics.proofs.Places.{Inside, no-axes, axis, inside-in, in-inside, length-inside, getD-inside, inside-unflat, flat-below, unflat-flat}
 
 -- ---- one axis out, one index in; one index changed
 pub inside-put-in : (x j : ℕ) (s is : List ℕ) → j < getD s x 0 → Inside (without x s) is → Inside s (put-in x j is)

@@ -11,3 +11,4 @@ pub mod Bounds
 pub mod Inside
 pub mod Likes
 pub mod LikeRuns
+pub mod Listings

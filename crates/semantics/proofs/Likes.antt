@@ -18,7 +18,8 @@ use Rattle.semantics.specs.Arrays.{Array, Numbers, Alike, folded, constant-arr
 use Rattle.semantics.specs.Values.{Expr, name, input, constant, count, each, both, choose, fold, scan, shape-to, turn, part, join, rows, Cell, Value, fault, Sizes, then, made, held, value, on-each, on-both, on-choose, on-fold, on-scan, on-shape, on-turn, on-part, on-join, on-rows}
 use Rattle.semantics.specs.ValueLaws.{Like-cells, like-none, like-some, Like-values, like-fault, like-val, Like-names, Like-inputs, Value-reads-places}
 use Rattle.semantics.proofs.Picks.{pick-two, pick-two-told}
-use Rattle.semantics.proofs.Inside.{Inside, axis, inside-in, in-inside, getD-inside, flat-below, inside-unflat, unflat-flat, inside-put-in, inside-set, inside-places-of, inside-turned-back, spreads-left, spreads-right, spreads-left-left, spreads-right-left, inside-narrow, same-true, inside-first, inside-second, joined-below, inside-take, inside-drop}
+use Rattle.semantics.proofs.Places.{Inside, axis, inside-in, in-inside, getD-inside, flat-below, inside-unflat, unflat-flat}
+use Rattle.semantics.proofs.Inside.{inside-put-in, inside-set, inside-places-of, inside-turned-back, spreads-left, spreads-right, spreads-left-left, spreads-right-left, inside-narrow, same-true, inside-first, inside-second, joined-below, inside-take, inside-drop}
 
 -- two arrays of one shape with the same numbers at its places
 pub data Twins {Num : Type 0} : Array Num → Array Num → Type 0 where

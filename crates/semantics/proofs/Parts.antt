@@ -7,7 +7,7 @@ use Rattle.std.proofs.shelf.Tests.{and-parts, and-from}
 use Rattle.semantics.specs.Parts.{Part, part-fits, parts-fit, part-shape, places-of, in-part, in-parts, which-one}
 use Rattle.semantics.specs.Arrays.{Alike, part-array}
 use Rattle.semantics.specs.PartLaws.{Part-places, Part-places-back, part-of-part, parts-of-parts, Part-of-part, Part-of-part-alike}
-use Rattle.semantics.proofs.Places.{Inside, none, more, inside, in-from}
+use Rattle.semantics.proofs.Places.{Inside, no-axes, axis, inside-in, in-inside}
 use Rattle.semantics.proofs.Axes.{place-below, which-place, in-place, which-below, place-which, part-of-part-fits, part-of-part-place}
 
 -- the same as `parts-fit`, for proofs by induction
@@ -29,13 +29,13 @@ pub data Shown : List Part → List ℕ → List ℕ → Type 0 where
 
 pub shown : {ps : List Part} {s is : List ℕ} → Fitted ps s → Inside (part-shape ps) is → Shown ps s is
 unfolding part-shape
-shown fitted-none none = shown-none
-shown (fitted-more f r) (more l h) = shown-more f l (shown r h)
+shown fitted-none no-axes = shown-none
+shown (fitted-more f r) (axis l h) = shown-more f l (shown r h)
 
 pub inside-places : {ps : List Part} {s is : List ℕ} → Shown ps s is → Inside s (places-of ps is)
 unfolding places-of
-inside-places shown-none = none
-inside-places (shown-more {p} {d} {i} f l h) = more (place-below p d i f l) (inside-places h)
+inside-places shown-none = no-axes
+inside-places (shown-more {p} {d} {i} f l h) = axis (place-below p d i f l) (inside-places h)
 
 pub in-parts-places : {ps : List Part} {s is : List ℕ} → Shown ps s is → in-parts ps (places-of ps is) ≡ true
 unfolding places-of in-parts
@@ -49,28 +49,28 @@ which-one-places (shown-more {p} {d} {i} f l h) = ap₂ _∷_ (which-place p d i
 
 pub part-places : Part-places
 part-places ps s is f h =
-    let k = shown (fitted ps s f) (inside (part-shape ps) is h) in
-    (in-from (inside-places k), in-parts-places k, which-one-places k)
+    let k = shown (fitted ps s f) (inside-in (part-shape ps) is h) in
+    (in-inside (inside-places k), in-parts-places k, which-one-places k)
 
 pub inside-which-one : {ps : List Part} {s is : List ℕ} → Fitted ps s → Inside s is → in-parts ps is ≡ true → Inside (part-shape ps) (which-one ps is)
 unfolding in-parts part-shape which-one
-inside-which-one fitted-none none h = none
-inside-which-one (fitted-more {p} f r) (more {i = i} l g) h =
+inside-which-one fitted-none no-axes h = no-axes
+inside-which-one (fitted-more {p} f r) (axis {i = i} l g) h =
     let k = and-parts (in-part p i) _ h in
-    more (which-below p i (k .0)) (inside-which-one r g (k .1))
+    axis (which-below p i (k .0)) (inside-which-one r g (k .1))
 
 pub places-which-one : {ps : List Part} {s is : List ℕ} → Fitted ps s → Inside s is → in-parts ps is ≡ true → places-of ps (which-one ps is) ≡ is
 unfolding in-parts places-of which-one
-places-which-one fitted-none none h = refl
-places-which-one (fitted-more {p} f r) (more {i = i} l g) h =
+places-which-one fitted-none no-axes h = refl
+places-which-one (fitted-more {p} f r) (axis {i = i} l g) h =
     let k = and-parts (in-part p i) _ h in
     ap₂ _∷_ (place-which p i (k .0)) (places-which-one r g (k .1))
 
 pub part-places-back : Part-places-back
 part-places-back ps s is f h b =
     let g = fitted ps s f in
-    let k = inside s is h in
-    (in-from (inside-which-one g k b), places-which-one g k b)
+    let k = inside-in s is h in
+    (in-inside (inside-which-one g k b), places-which-one g k b)
 
 parts-of-parts-fit : {ps qs : List Part} {s : List ℕ} → Fitted qs s → Fitted ps (part-shape qs) → parts-fit (parts-of-parts ps qs) s ≡ true
 unfolding part-shape parts-of-parts parts-fit
@@ -91,7 +91,7 @@ pub part-of-part-is-part : Part-of-part
 part-of-part-is-part ps qs s f g =
     let r = fitted qs s f in
     let t = fitted ps (part-shape qs) g in
-    (parts-of-parts-fit r t, parts-of-parts-shape r t, λ is h. parts-of-parts-places r (shown t (inside (part-shape ps) is h)))
+    (parts-of-parts-fit r t, parts-of-parts-shape r t, λ is h. parts-of-parts-places r (shown t (inside-in (part-shape ps) is h)))
 
 pub part-of-part-alike : (Num : Type 0) → Part-of-part-alike Num
 unfolding Alike part-array

@@ -1,0 +1,4 @@
+pub mod Storing
+pub mod Views
+pub mod Lengths
+pub mod Nodes
