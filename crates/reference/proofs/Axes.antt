@@ -8,7 +8,8 @@ use lib.ListN.{length, getD, set, take}
 use Rattle.semantics.specs.Shapes.{without, put-in}
 use Rattle.std.proofs.shelf.Lists.{set-getD}
 use Rattle.semantics.specs.Arrays.{folded}
-use Rattle.semantics.proofs.Inside.{Inside, inside-set}
+use Rattle.semantics.proofs.Places.{Inside}
+use Rattle.semantics.proofs.Inside.{inside-set}
 
 pub take-set-any : (n i a : ℕ) (xs : List ℕ) → take n (set xs i a) ≡ set (take n xs) i a
 take-set-any zero i a xs = refl

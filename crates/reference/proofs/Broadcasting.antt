@@ -12,7 +12,8 @@ use Rattle.std.proofs.shelf.Lists.{length-reverse, getD-reverse, getD-drop, get
 use Rattle.std.proofs.shelf.Tests.{and-from, and-left, and-right}
 use Rattle.semantics.specs.Shapes.{pick, In}
 use Rattle.semantics.specs.Broadcast.{joins, joined, fit, wide, pinned, narrow}
-use Rattle.semantics.proofs.Inside.{Inside, Spreads, inside-in, in-inside, inside-narrow, length-inside}
+use Rattle.semantics.proofs.Places.{Inside, inside-in, in-inside, length-inside}
+use Rattle.semantics.proofs.Inside.{Spreads, inside-narrow}
 use Rattle.reference.specs.Broadcasts.{Widened, Reaches}
 
 abbrev pub fits-one : ℕ → ℕ → Bool

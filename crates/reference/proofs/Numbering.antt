@@ -9,7 +9,7 @@ use lib.ListN.{length, getD, set, take, drop}
 use Rattle.std.proofs.shelf.Bits.{div-below, mod-below}
 use Rattle.std.proofs.shelf.Lists.{take-more, take-take, drop-set, length-take-le, append-assoc}
 use Rattle.semantics.specs.Shapes.{size, In, flat, unflat}
-use Rattle.semantics.proofs.Inside.{Inside, no-axes, axis, inside-in, flat-below}
+use Rattle.semantics.proofs.Places.{Inside, no-axes, axis, inside-in, flat-below}
 use Rattle.bytes.proofs.Sizes.{size-push}
 
 pub flat-push : (s is : List ℕ) (d i : ℕ) → length is ≡ length s → flat (s ++ d ∷ []) (is ++ i ∷ []) ≡ flat s is * d + i

@@ -1,3 +1,4 @@
 pub mod IndicesOf
 pub mod ArrayOf
 pub mod Broadcasts
+pub mod PartsOf

@@ -6,5 +6,8 @@ pub mod create;
 pub mod elementwise;
 pub mod place;
 pub mod reduce;
+pub mod restructure;
 pub mod shapes;
+pub mod slice;
+pub mod slices;
 pub mod tabulate;

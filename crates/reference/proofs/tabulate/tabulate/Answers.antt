@@ -6,7 +6,7 @@ use lib.ListN.{getD}
 use Rattle.std.specs.Of.Vec.{vec-items, vec-len}
 use Rattle.semantics.specs.Shapes.{size, In, flat, unflat}
 use Rattle.semantics.specs.Arrays.{Alike}
-use Rattle.semantics.proofs.Inside.{inside-in, in-inside, inside-unflat, unflat-flat, flat-below}
+use Rattle.semantics.proofs.Places.{inside-in, in-inside, inside-unflat, unflat-flat, flat-below}
 use Rattle.bytes.specs.ShapeOf.{shape-of}
 use Rattle.reference.specs.IndicesOf.{indices-of}
 use Rattle.reference.proofs.tabulate.tabulate.Needs as need

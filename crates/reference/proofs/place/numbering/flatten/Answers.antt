@@ -4,7 +4,7 @@ use native.Mathlib.Omega.{arith}
 use lib.ListN.{length, getD, take}
 use Rattle.std.proofs.shelf.Lists.{length-take-le}
 use Rattle.semantics.specs.Shapes.{In, flat}
-use Rattle.semantics.proofs.Inside.{Inside, inside-in, length-inside, flat-below}
+use Rattle.semantics.proofs.Places.{Inside, inside-in, length-inside, flat-below}
 use Rattle.bytes.specs.declared.shape.Shape.{Shape}
 use Rattle.bytes.specs.ShapeOf.{shape-of}
 use Rattle.reference.specs.declared.place.Place.{Place}

@@ -5,7 +5,8 @@ use native.Mathlib.Omega.{arith}
 use lib.ListN.{length, getD, set}
 use Rattle.semantics.specs.Shapes.{In, without, put-in}
 use Rattle.semantics.specs.Arrays.{folded}
-use Rattle.semantics.proofs.Inside.{Inside, inside-in, in-inside, inside-put-in, length-inside}
+use Rattle.semantics.proofs.Places.{Inside, inside-in, in-inside, length-inside}
+use Rattle.semantics.proofs.Inside.{inside-put-in}
 use Rattle.numbers.specs.Operations.{binary64}
 use Rattle.bytes.specs.ShapeOf.{shape-of}
 use Rattle.reference.specs.ArrayOf.{array-of}

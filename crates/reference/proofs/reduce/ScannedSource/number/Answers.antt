@@ -4,7 +4,7 @@ use native.Mathlib.Omega.{arith}
 use lib.ListN.{length, getD, set}
 use Rattle.semantics.specs.Shapes.{In}
 use Rattle.semantics.specs.Arrays.{folded}
-use Rattle.semantics.proofs.Inside.{Inside, inside-in, in-inside, length-inside, getD-inside}
+use Rattle.semantics.proofs.Places.{Inside, inside-in, in-inside, length-inside, getD-inside}
 use Rattle.numbers.specs.Operations.{binary64}
 use Rattle.bytes.specs.ShapeOf.{shape-of}
 use Rattle.reference.specs.ArrayOf.{array-of}
