@@ -1,3 +1,4 @@
+pub mod Axes
 pub mod Broadcasting
 pub mod Bracketed
 pub mod Cells
@@ -5,3 +6,7 @@ pub mod Filling
 pub mod Inputs
 pub mod Numbering
 pub mod Rights
+pub mod Measures
+pub mod Numbering
+pub mod Slicing
+pub mod Tables

@@ -7,3 +7,4 @@ pub mod Finishing
 pub mod Right
 pub mod Operands
 pub mod Brackets
+pub mod PartsOf

@@ -9,7 +9,7 @@ ghost use Rattle.std.specs.Options.{Cases as BySome};
 ghost use Rattle.semantics.specs.Shapes.{pick};
 ghost use Rattle.semantics.specs.Broadcast.{fit, narrow};
 ghost use Rattle.bytes.specs.ShapeOf.{shape-of};
-ghost use Rattle.reference.specs.ArrayOf.{array-of};
+ghost use Rattle.reference.specs.ArrayOf.{narrow-at};
 ghost use Rattle.reference.specs.IndicesOf.{indices-of};
 ghost use Rattle.reference.specs.Broadcasts.{Widened, Reaches};
 use crate::array::Array;
@@ -80,7 +80,7 @@ pub fn narrow_place(shape: &Shape, place: &Place) -> Place
 // The number of an array at a place of a shape to which it is broadcast.
 pub fn get_narrow(array: &Array, place: &Place) -> u64
     requires reaches { ⌜ Reaches (shape-of (now array .shape)) (indices-of (now place)) ⌝ }
-    ensures { λ r. ⌜ r ≡ array-of (now (array .entry)) .at (narrow (shape-of (now (array .entry) .shape)) (indices-of (now (place .entry)))) ⌝ }
+    ensures { λ r. ⌜ r ≡ narrow-at (now (array .entry)) (indices-of (now (place .entry))) ⌝ }
 {
     array.get(&narrow_place(&array.shape, place))
 }
