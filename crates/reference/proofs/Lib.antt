@@ -1,12 +1,11 @@
 pub mod Axes
 pub mod Broadcasting
-pub mod Bracketed
-pub mod Cells
 pub mod Filling
-pub mod Inputs
 pub mod Numbering
-pub mod Rights
 pub mod Measures
-pub mod Numbering
 pub mod Slicing
 pub mod Tables
+pub mod Bracketed
+pub mod Cells
+pub mod Inputs
+pub mod Rights
