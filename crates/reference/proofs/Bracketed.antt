@@ -1,7 +1,7 @@
 -- Items and slices passed one after another.
 use mathlib.Core.Path.{_≡_, refl, sym, ap, _∙_, subst}
 use mathlib.Core.Bool.{Bool, true, false}
-use mathlib.Core.List.{List, [], _∷_}
+use mathlib.Core.List.{List, [], _∷_, _++_, append-assoc, append-nil}
 use Prim.Native.Nat.{ℕ, _+_, _≤_, _<_}
 use native.Mathlib.Omega.{arith}
 use lib.ListN.{length}
@@ -12,8 +12,8 @@ use Rattle.program.specs.declared.step.Step.the-variants.{End, Let, Put, Show, 
 use Rattle.program.specs.Spelling.{items, slices, spell}
 use Rattle.program.specs.Words.{steps-in, At}
 use Rattle.program.specs.Standing.{steps-from, Opens, Items-view, item, no-item, Slices-view, slice, no-slice}
-use Rattle.program.proofs.Nodes.{items-view, slices-view, no-items, no-slices, items-there, slices-there}
-use Rattle.reference.specs.Brackets.{bracketed, Skips-brackets}
+use Rattle.program.proofs.Nodes.{items-view, slices-view, no-items, no-slices, first-item, first-slice, items-there, slices-there}
+use Rattle.reference.specs.Brackets.{bracketed, Skips-brackets, Reads-items, Reads-slices}
 
 -- what is left of the items and slices that stand at i, at j
 pub record Some-items (ws : List ℕ) (j : ℕ) (q : List Step) : Type 0 where
@@ -92,4 +92,80 @@ passed-all ws i j l p =
       further = p .further;
       past-items = λ ks e r h. let s = p .on-items ks e r h in absurd (omega (arith, items-there ws j (record { list = s .list; expr = e; rest = r; enc = s .enc })));
       past-slices = λ ps e r h. let s = p .on-slices ps e r h in absurd (omega (arith, slices-there ws j (record { parts = s .list; expr = e; rest = r; enc = s .enc })));
+    }
+
+-- items and slices read one after another: those read, and those still to come
+pub record Rest-items (ws : List ℕ) (j : ℕ) (q : List Step) (xs ks : List ℕ) : Type 0 where
+  pub rest : List ℕ
+  pub enc : steps-from ws j ≡ items rest q
+  pub list : ks ≡ xs ++ rest
+
+pub record Reading-items (ws : List ℕ) (i j : ℕ) (xs : List ℕ) : Type 0 where
+  pub on : (ks : List ℕ) (e : Expr ℕ) (r : List Step) → steps-from ws i ≡ items ks (spell e r) → Rest-items ws j (spell e r) xs ks
+
+pub reading-no-items : (ws : List ℕ) (i : ℕ) (xs : List ℕ) → xs ≡ [] → Reading-items ws i i xs
+reading-no-items ws i xs n =
+    record { on = λ ks e r h. record { rest = ks; enc = h; list = ap (λ l. l ++ ks) (sym n) } }
+
+pub record Rest-slices (ws : List ℕ) (j : ℕ) (q : List Step) (xs ps : List Part) : Type 0 where
+  pub rest : List Part
+  pub enc : steps-from ws j ≡ slices rest q
+  pub list : ps ≡ xs ++ rest
+
+pub record Reading-slices (ws : List ℕ) (i j : ℕ) (xs : List Part) : Type 0 where
+  pub on : (ps : List Part) (e : Expr ℕ) (r : List Step) → steps-from ws i ≡ slices ps (spell e r) → Rest-slices ws j (spell e r) xs ps
+
+pub reading-no-slices : (ws : List ℕ) (i : ℕ) (xs : List Part) → xs ≡ [] → Reading-slices ws i i xs
+reading-no-slices ws i xs n =
+    record { on = λ ps e r h. record { rest = ps; enc = h; list = ap (λ l. l ++ ps) (sym n) } }
+
+module _ (ws : List ℕ) (i j : ℕ) (x : Step) (at : At ws j x) where
+  pub reading-item : {k : ℕ} (xs ys : List ℕ) → x ≡ Item k → ys ≡ xs ++ k ∷ [] → Reading-items ws i j xs → Reading-items ws i (j + 1) ys
+  reading-item {k} xs ys is n p =
+      record {
+        on = λ ks e r h.
+            let s = p .on ks e r h in
+            let f = first-item ws j x at is (s .rest) e r (s .enc) in
+            record { rest = f .others; enc = f .enc; list = s .list ∙ (ap (λ l. xs ++ l) (f .list) ∙ (sym (append-assoc xs (k ∷ []) (f .others)) ∙ ap (λ l. l ++ f .others) (sym n))) };
+      }
+
+  pub read-items : (xs : List ℕ) → ((k : ℕ) → x ≡ Item k → ⊥) → Reading-items ws i j xs → Reads-items ws i xs
+  read-items xs ne p =
+      record {
+        on = λ ks e r h.
+            let s = p .on ks e r h in
+            sym (s .list ∙ (ap (λ l. xs ++ l) (no-items ws j x at ne (s .rest) e r (s .enc) .0) ∙ append-nil xs));
+      }
+
+  pub reading-slice : {p : Part} (xs ys : List Part) → x ≡ Slice (p .from) (p .backward) (p .step) (p .many) → ys ≡ xs ++ p ∷ [] → Reading-slices ws i j xs → Reading-slices ws i (j + 1) ys
+  reading-slice {p} xs ys is n q =
+      record {
+        on = λ ps e r h.
+            let s = q .on ps e r h in
+            let f = first-slice ws j x at {p = p} is (s .rest) e r (s .enc) in
+            record { rest = f .others; enc = f .enc; list = s .list ∙ (ap (λ l. xs ++ l) (f .list) ∙ (sym (append-assoc xs (p ∷ []) (f .others)) ∙ ap (λ l. l ++ f .others) (sym n))) };
+      }
+
+  pub read-slices : (xs : List Part) → ((f : ℕ) (b : Bool) (s m : ℕ) → x ≡ Slice f b s m → ⊥) → Reading-slices ws i j xs → Reads-slices ws i xs
+  read-slices xs ne q =
+      record {
+        on = λ ps e r h.
+            let s = q .on ps e r h in
+            sym (s .list ∙ (ap (λ l. xs ++ l) (no-slices ws j x at ne (s .rest) e r (s .enc) .0) ∙ append-nil xs));
+      }
+
+pub read-all-items : (ws : List ℕ) (i j : ℕ) (xs : List ℕ) → length (steps-in ws) ≤ j → Reading-items ws i j xs → Reads-items ws i xs
+read-all-items ws i j xs l p =
+    record {
+      on = λ ks e r h.
+          let s = p .on ks e r h in
+          absurd (omega (arith, items-there ws j (record { list = s .rest; expr = e; rest = r; enc = s .enc })));
+    }
+
+pub read-all-slices : (ws : List ℕ) (i j : ℕ) (xs : List Part) → length (steps-in ws) ≤ j → Reading-slices ws i j xs → Reads-slices ws i xs
+read-all-slices ws i j xs l p =
+    record {
+      on = λ ps e r h.
+          let s = p .on ps e r h in
+          absurd (omega (arith, slices-there ws j (record { parts = s .rest; expr = e; rest = r; enc = s .enc })));
     }

@@ -9,3 +9,6 @@ pub mod Bracketed
 pub mod Cells
 pub mod Inputs
 pub mod Rights
+pub mod Measured
+pub mod Operating
+pub mod Evaluating

@@ -82,3 +82,10 @@ right-is {r = r} e h = subst (λ x. Right x r) (sym e) h
 -- what `finish` answers
 pub right-finish : (n c t : ℕ) (a : Array ℕ) (r : Result owned.Array AllocError) (out : Result Made Stop) → out ≡ finished r t → vec.made r (λ b. Alike (array-of b) a) → t ≡ c + size (a .shape) → t ≤ n → Right (made n c a) out
 right-finish n c t a r out o h e l = subst (λ x. Right (made n c a) x) (sym o) (right-finished n c t a r h e l)
+
+-- a test and its fault
+pub right-if : (b : Bool) (v w : Value ℕ) {r : Result Made Stop} → b ≡ true → Right v r → Right (pick b v w) r
+right-if b v w {r} e h = subst (λ x. Right (pick x v w) r) (sym e) h
+
+pub right-else : (b : Bool) (v w : Value ℕ) {r : Result Made Stop} → b ≡ false → Right w r → Right (pick b v w) r
+right-else b v w {r} e h = subst (λ x. Right (pick x v w) r) (sym e) h

@@ -38,3 +38,10 @@ pub record Skips-brackets (ws : List ℕ) (i j : ℕ) : Type 0 where
   pub further : i ≤ j
   pub past-items : (ks : List ℕ) (e : Expr ℕ) (r : List Step) → steps-from ws i ≡ items ks (spell e r) → steps-from ws j ≡ spell e r
   pub past-slices : (ps : List Part) (e : Expr ℕ) (r : List Step) → steps-from ws i ≡ slices ps (spell e r) → steps-from ws j ≡ spell e r
+
+-- numbers that are the items at j, whatever items stand there; and slices
+pub record Reads-items (ws : List ℕ) (j : ℕ) (xs : List ℕ) : Type 0 where
+  pub on : (ks : List ℕ) (e : Expr ℕ) (r : List Step) → steps-from ws j ≡ items ks (spell e r) → xs ≡ ks
+
+pub record Reads-slices (ws : List ℕ) (j : ℕ) (xs : List Part) : Type 0 where
+  pub on : (ps : List Part) (e : Expr ℕ) (r : List Step) → steps-from ws j ≡ slices ps (spell e r) → xs ≡ ps

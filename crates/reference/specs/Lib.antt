@@ -7,4 +7,5 @@ pub mod Finishing
 pub mod Right
 pub mod Operands
 pub mod Brackets
+pub mod Evaluation
 pub mod PartsOf

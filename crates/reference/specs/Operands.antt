@@ -1,8 +1,8 @@
 -- An expression by its first step: no operands, or one, two or three, with what the operation makes of their arrays where n places
--- are left. The items and slices of its brackets stand behind node i.
+-- are left. The items and slices of its brackets stand at node j.
 use mathlib.Core.Path.{_≡_}
 use mathlib.Core.List.{List}
-use Prim.Native.Nat.{ℕ, _+_}
+use Prim.Native.Nat.{ℕ}
 use Rattle.semantics.specs.declared.operation.Unary.{Unary}
 use Rattle.semantics.specs.declared.operation.Binary.{Binary}
 use Rattle.semantics.specs.Parts.{Part}
@@ -47,13 +47,13 @@ pub data Leaf : Step → Expr ℕ → Type 0 where
   leaf-constant : {x : ℕ} → Leaf (Constant x) (constant x)
   leaf-count : {m : ℕ} → Leaf (Count m) (count m)
 
-pub data One (ws : List ℕ) (i n p : ℕ) : Step → Expr ℕ → Expr ℕ → (Array ℕ → ℕ → Value ℕ) → Type 0 where
-  one-each : {k : Unary} {e : Expr ℕ} → One ws i n p (Each k) (each k e) e (λ a c. on-each binary64 k n a c)
-  one-fold : {k : Binary} {x : ℕ} {e : Expr ℕ} → One ws i n p (Fold k x) (fold k x e) e (λ a c. on-fold binary64 k x n a c)
-  one-scan : {k : Binary} {x : ℕ} {e : Expr ℕ} → One ws i n p (Scan k x) (scan k x e) e (λ a c. on-scan binary64 k x n a c)
-  one-shape : {t : List ℕ} {e : Expr ℕ} (r : List Step) → steps-from ws (i + 1) ≡ items t (spell e r) → One ws i n p Shape (shape-to t e) e (λ a c. on-shape (sizes p) t n a c)
-  one-turn : {os : List ℕ} {e : Expr ℕ} (r : List Step) → steps-from ws (i + 1) ≡ items os (spell e r) → One ws i n p Turn (turn os e) e (λ a c. on-turn os n a c)
-  one-part : {ps : List Part} {e : Expr ℕ} (r : List Step) → steps-from ws (i + 1) ≡ slices ps (spell e r) → One ws i n p Cut (part ps e) e (λ a c. on-part ps n a c)
+pub data One (ws : List ℕ) (j n p : ℕ) : Step → Expr ℕ → Expr ℕ → (Array ℕ → ℕ → Value ℕ) → Type 0 where
+  one-each : {k : Unary} {e : Expr ℕ} → One ws j n p (Each k) (each k e) e (λ a c. on-each binary64 k n a c)
+  one-fold : {k : Binary} {x : ℕ} {e : Expr ℕ} → One ws j n p (Fold k x) (fold k x e) e (λ a c. on-fold binary64 k x n a c)
+  one-scan : {k : Binary} {x : ℕ} {e : Expr ℕ} → One ws j n p (Scan k x) (scan k x e) e (λ a c. on-scan binary64 k x n a c)
+  one-shape : {t : List ℕ} {e : Expr ℕ} (r : List Step) → steps-from ws j ≡ items t (spell e r) → One ws j n p Shape (shape-to t e) e (λ a c. on-shape (sizes p) t n a c)
+  one-turn : {os : List ℕ} {e : Expr ℕ} (r : List Step) → steps-from ws j ≡ items os (spell e r) → One ws j n p Turn (turn os e) e (λ a c. on-turn os n a c)
+  one-part : {ps : List Part} {e : Expr ℕ} (r : List Step) → steps-from ws j ≡ slices ps (spell e r) → One ws j n p Cut (part ps e) e (λ a c. on-part ps n a c)
 
 pub data Two (n p : ℕ) : Step → Expr ℕ → Expr ℕ → Expr ℕ → (Array ℕ → Array ℕ → ℕ → Value ℕ) → Type 0 where
   two-both : {k : Binary} {e f : Expr ℕ} → Two n p (Both k) (both k e f) e f (λ a b c. on-both binary64 k n a b c)
