@@ -1,7 +1,10 @@
 pub mod Axes
 pub mod Broadcasting
 pub mod Filling
+pub mod Gathering
+pub mod Joining
 pub mod Measures
 pub mod Numbering
+pub mod Ordering
 pub mod Slicing
 pub mod Tables

@@ -2,8 +2,11 @@
 // no views, and nothing is shared, so that the code stays close to what the language says.
 pub mod array;
 pub mod broadcast;
+pub mod concat;
 pub mod create;
 pub mod elementwise;
+pub mod gather;
+pub mod orders;
 pub mod place;
 pub mod reduce;
 pub mod restructure;
