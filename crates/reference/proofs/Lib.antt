@@ -6,5 +6,6 @@ pub mod Joining
 pub mod Measures
 pub mod Numbering
 pub mod Ordering
+pub mod Replacing
 pub mod Slicing
 pub mod Tables
