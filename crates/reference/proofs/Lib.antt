@@ -3,6 +3,10 @@ pub mod Broadcasting
 pub mod Filling
 pub mod Numbering
 pub mod Measures
+pub mod Gathering
+pub mod Joining
+pub mod Ordering
+pub mod Replacing
 pub mod Slicing
 pub mod Tables
 pub mod Bracketed

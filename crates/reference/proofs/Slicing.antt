@@ -2,15 +2,15 @@
 use mathlib.Core.Path.{_≡_, refl, sym, ap, _∙_, subst}
 use mathlib.Core.Bool.{Bool, true, false, _&&_}
 use mathlib.Core.List.{List, [], _∷_, map}
-use Prim.Native.Nat.{ℕ, zero, suc, _+_, _-_, _≤_, _<_}
+use Prim.Native.Nat.{ℕ, zero, suc, _+_, _/_, _≤_, _<_}
 use native.Mathlib.Omega.{arith}
 use lib.ListN.{length, getD, drop}
-use Rattle.std.proofs.shelf.Lists.{drop-more, drop-all, length-map}
-use Rattle.std.proofs.shelf.Tests.{and-parts, and-left, false≢true}
+use Rattle.std.proofs.shelf.Lists.{drop-more, drop-all, length-map, getD-map}
+use Rattle.std.proofs.shelf.Tests.{and-parts, false≢true}
 use Rattle.semantics.specs.Parts.{Part, place-of, part-fits, parts-fit, part-shape, places-of, apart, in-part, in-parts, which-one}
-use Rattle.semantics.proofs.Places.{Inside, length-inside}
+use Rattle.semantics.proofs.Axes.{fits-step}
 use Rattle.reference.specs.declared.slice.Slice.{Slice}
-use Rattle.reference.specs.PartsOf.{part-of, parts-of}
+use Rattle.reference.specs.PartsOf.{part-of, parts-of, Stepping}
 
 -- ---- whether slices fit
 pub parts-fit-other : (ps : List Part) (s : List ℕ) → (length ps ≡ length s → ⊥) → parts-fit ps s ≡ false
@@ -76,3 +76,36 @@ getD-places-of d [] is k l h = absurd (omega arith)
 getD-places-of d (x ∷ xs) [] k l h = absurd (omega arith)
 getD-places-of d (x ∷ xs) (i ∷ is) zero l h = refl
 getD-places-of d (x ∷ xs) (i ∷ is) (suc k) l h = getD-places-of d xs is k (omega arith) (omega arith)
+
+-- ---- steps
+pub stepping-at : (d : Slice) (xs : List Slice) (k : ℕ) → Stepping xs → k < length xs → 0 < getD xs k d .step
+stepping-at d xs k h l = subst (λ n. 0 < n) (getD-map (λ (s : Slice). s .step) xs k d 0 l) (h k l)
+
+pub stepping-from : (d : Slice) (xs : List Slice) (s : List ℕ) → parts-fit (parts-of xs) s ≡ true → Stepping xs
+stepping-from d xs s e k l =
+    let there : k < length s = omega (arith, slices-length xs s e) in
+    subst (λ n. 0 < n) (sym (getD-map (λ (x : Slice). x .step) xs k d 0 l)) (fits-step (part-of (getD xs k d)) (getD s k 0) (fits-at d xs s k e there))
+
+-- ---- whether a place is shown, and at which place
+module _ (d : Slice) (xs : List Slice) (is : List ℕ) (k : ℕ) where
+  pub in-drop : k < length xs → k < length is →
+      in-parts (parts-of (drop k xs)) (drop k is) ≡ (in-part (part-of (getD xs k d)) (getD is k 0) && in-parts (parts-of (drop (k + 1) xs)) (drop (k + 1) is))
+  unfolding in-parts
+  in-drop l m = ap (λ ys. in-parts (parts-of ys) (drop k is)) (drop-more xs k d l) ∙ ap (λ js. in-parts (parts-of (getD xs k d ∷ drop (k + 1) xs)) js) (drop-more is k 0 m)
+
+  pub in-end : length xs ≤ k → in-parts (parts-of (drop k xs)) (drop k is) ≡ true
+  unfolding in-parts
+  in-end l = ap (λ ys. in-parts (parts-of ys) (drop k is)) (drop-all k xs l)
+
+pub length-which-one : (xs : List Slice) (is : List ℕ) → length xs ≤ length is → length (which-one (parts-of xs) is) ≡ length xs
+unfolding which-one
+length-which-one [] is h = refl
+length-which-one (x ∷ xs) [] h = absurd (omega arith)
+length-which-one (x ∷ xs) (i ∷ is) h = ap suc (length-which-one xs is (omega arith))
+
+pub getD-which-one : (d : Slice) (xs : List Slice) (is : List ℕ) (k : ℕ) → k < length xs → length xs ≤ length is → getD (which-one (parts-of xs) is) k 0 ≡ apart (part-of (getD xs k d)) (getD is k 0) / getD xs k d .step
+unfolding which-one
+getD-which-one d [] is k l h = absurd (omega arith)
+getD-which-one d (x ∷ xs) [] k l h = absurd (omega arith)
+getD-which-one d (x ∷ xs) (i ∷ is) zero l h = refl
+getD-which-one d (x ∷ xs) (i ∷ is) (suc k) l h = getD-which-one d xs is k (omega arith) (omega arith)

@@ -63,11 +63,9 @@ impl Source for Zipped<'_> as ZippedSource {
     ghost at = { λ s is. binary64 .two (s .op) (narrow-at (now (s .left)) is) (narrow-at (now (s .right)) is) };
 
     fn number(&self, place: &Place) -> u64 {
-        binary(
-            self.op,
-            get_narrow(self.left, place),
-            get_narrow(self.right, place),
-        )
+        let left = get_narrow(self.left, place);
+        let right = get_narrow(self.right, place);
+        binary(self.op, left, right)
     }
 }
 

@@ -35,10 +35,12 @@ fn accumulate(array: &Array, op: Binary, axis: usize, place: &Place, count: u64)
     if count == 0 {
         return empty_fold(op);
     }
-    let mut total = array.get(&with_index(place, axis, 0));
+    let first = array.get(&with_index(place, axis, 0));
+    let mut total = first;
     for j in 1..count {
         let number = array.get(&with_index(place, axis, j as u32));
-        total = binary(op, total, number);
+        let next = binary(op, total, number);
+        total = next;
     }
     total
 }

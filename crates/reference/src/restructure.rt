@@ -4,15 +4,19 @@ ghost use mathlib.Core.Bool.{true, _&&_};
 ghost use denote.Ref.{now};
 ghost use Prim.Native.Nat.{_^_, _≤_, _-_, min};
 ghost use lib.Dec.{eqb, leb};
+ghost use lib.ListN.{length};
 ghost use Rattle.std.specs.Vec.{made};
 ghost use Rattle.semantics.specs.Shapes.{size, In};
 ghost use Rattle.semantics.specs.Parts.{parts-fit, part-shape, places-of};
-ghost use Rattle.semantics.specs.Arrays.{Alike, shape-array, part-array};
+ghost use Rattle.semantics.specs.Orders.{is-order, turned, turned-back};
+ghost use Rattle.semantics.specs.Arrays.{Alike, shape-array, part-array, turn-array};
 ghost use Rattle.bytes.specs.ShapeOf.{shape-of};
 ghost use Rattle.reference.specs.ArrayOf.{array-of};
 ghost use Rattle.reference.specs.IndicesOf.{indices-of};
 ghost use Rattle.reference.specs.PartsOf.{parts-of};
 use crate::array::Array;
+use crate::orders::transposed_shape;
+use crate::orders::untransposed_place;
 use crate::place::Place;
 use crate::slice::Slice;
 use crate::slices::slice_shape;
@@ -75,4 +79,30 @@ pub fn part<'a>(heap: Global, slices: &'a [Slice], array: &'a Array) -> Result<A
     ensures { λ r. ⌜ made r (λ a. Alike (array-of a) (part-array (parts-of (now (slices .entry))) (array-of (now (array .entry))))) ⌝ }
 {
     tabulate(heap, slice_shape(slices), &Sliced { slices, array })
+}
+
+#[derive(Drop)]
+struct Transposed<'a> {
+    order: &'a [u32],
+    array: &'a Array,
+}
+
+impl Source for Transposed<'_> as TransposedSource {
+    ghost ready = { λ s is. (is-order (now (s .order)) (length (shape-of (now (s .array) .shape))) ≡ true) × In (turned (now (s .order)) (shape-of (now (s .array) .shape))) is };
+
+    ghost at = { λ s is. array-of (now (s .array)) .at (turned-back (now (s .order)) is) };
+
+    fn number(&self, place: &Place) -> u64 {
+        self.array.get(&untransposed_place(self.order, place))
+    }
+}
+
+// The array with its axes in another order.
+pub fn turn<'a>(heap: Global, order: &'a [u32], array: &'a Array) -> Result<Array, AllocError>
+    requires order { ⌜ is-order (now order) (length (shape-of (now array .shape))) ≡ true ⌝ }
+    requires small { ⌜ size (turned (now order) (shape-of (now array .shape))) ≤ 2 ^ 26 ⌝ }
+    ensures { λ r. ⌜ made r (λ a. Alike (array-of a) (turn-array (now (order .entry)) (array-of (now (array .entry))))) ⌝ }
+{
+    let shape = transposed_shape(order, &array.shape);
+    tabulate(heap, shape, &Transposed { order, array })
 }

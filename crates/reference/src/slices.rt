@@ -1,14 +1,14 @@
 // Slices along each axis: whether they fit a shape, and which places they show.
 ghost use mathlib.Core.Path.{_≡_};
 ghost use mathlib.Core.Bool.{true, _&&_, _||_};
-ghost use Prim.Native.Nat.{_<_, _≤_};
-ghost use lib.Dec.{eqb, ltb};
+ghost use Prim.Native.Nat.{_/_, _%_, _<_, _≤_};
+ghost use lib.Dec.{eqb, leb, ltb};
 ghost use lib.ListN.{length};
-ghost use Rattle.semantics.specs.Shapes.{In};
-ghost use Rattle.semantics.specs.Parts.{place-of, part-fits, parts-fit, part-shape, places-of};
+ghost use Rattle.semantics.specs.Shapes.{pick, In};
+ghost use Rattle.semantics.specs.Parts.{place-of, part-fits, parts-fit, part-shape, places-of, apart, in-part, in-parts, which-one};
 ghost use Rattle.bytes.specs.ShapeOf.{shape-of};
 ghost use Rattle.reference.specs.IndicesOf.{indices-of};
-ghost use Rattle.reference.specs.PartsOf.{part-of, parts-of, last-inside};
+ghost use Rattle.reference.specs.PartsOf.{part-of, parts-of, last-inside, Stepping};
 use crate::place::Place;
 use crate::slice::Slice;
 use bytes::shape::Shape;
@@ -103,6 +103,71 @@ pub fn sliced_place(slices: &[Slice], shape: &Shape, place: &Place) -> Place
     let mut indices = [0; 8];
     for k in 0..rank {
         indices[k] = sliced_index(slices[k], shape.lens[k], place.indices[k]);
+    }
+    Place { rank, indices }
+}
+
+// How far an index is from the first of a slice, in its direction.
+fn distance(slice: Slice, index: u32) -> u32
+    ensures { λ r. ⌜ r ≡ apart (part-of slice) index ⌝ }
+{
+    if slice.backward {
+        slice.from.saturating_sub(index)
+    } else {
+        index.saturating_sub(slice.from)
+    }
+}
+
+// Whether an index is the first of a slice or lies in its direction.
+fn ahead(slice: Slice, index: u32) -> bool
+    ensures { λ r. ⌜ r ≡ pick (slice .backward) (leb index (slice .from)) (leb (slice .from) index) ⌝ }
+{
+    if slice.backward {
+        index <= slice.from
+    } else {
+        slice.from <= index
+    }
+}
+
+// Whether an index at a distance in the direction of a slice is one of its own.
+fn on_step(slice: Slice, distance: u32) -> bool
+    requires step { ⌜ 0 < slice .step ⌝ }
+    ensures { λ r. ⌜ r ≡ (eqb (distance % slice .step) 0 && ltb (distance / slice .step) (slice .many)) ⌝ }
+{
+    distance % slice.step == 0 && distance / slice.step < slice.many
+}
+
+fn in_slice(slice: Slice, index: u32) -> bool
+    requires step { ⌜ 0 < slice .step ⌝ }
+    ensures { λ r. ⌜ r ≡ in-part (part-of slice) index ⌝ }
+{
+    ahead(slice, index) && on_step(slice, distance(slice, index))
+}
+
+// Whether slices show a place.
+pub fn in_slices(slices: &[Slice], place: &Place) -> bool
+    requires steps { ⌜ Stepping (now slices) ⌝ }
+    requires axes { ⌜ length (now slices) ≤ length (indices-of (now place)) ⌝ }
+    ensures { λ r. ⌜ r ≡ in-parts (parts-of (now (slices .entry))) (indices-of (now (place .entry))) ⌝ }
+{
+    for k in 0..slices.len() {
+        if !in_slice(slices[k], place.indices[k]) {
+            return false;
+        }
+    }
+    true
+}
+
+// The place at which slices show a place.
+pub fn unsliced_place(slices: &[Slice], place: &Place) -> Place
+    requires steps { ⌜ Stepping (now slices) ⌝ }
+    requires axes { ⌜ length (now slices) ≤ length (indices-of (now place)) ⌝ }
+    ensures { λ r. ⌜ indices-of r ≡ which-one (parts-of (now (slices .entry))) (indices-of (now (place .entry))) ⌝ }
+{
+    let rank = slices.len();
+    let mut indices = [0; 8];
+    for k in 0..rank {
+        indices[k] = distance(slices[k], place.indices[k]) / slices[k].step;
     }
     Place { rank, indices }
 }

@@ -1,7 +1,8 @@
 // One index of a place read, changed or put in.
 ghost use mathlib.Core.Path.{_≡_};
-ghost use Prim.Native.Nat.{_<_, _≤_};
-ghost use lib.ListN.{length, getD, set};
+ghost use mathlib.Core.List.{_∷_};
+ghost use Prim.Native.Nat.{_+_, _<_, _≤_};
+ghost use lib.ListN.{length, getD, set, take, drop};
 ghost use Rattle.semantics.specs.Shapes.{put-in};
 ghost use Rattle.reference.specs.IndicesOf.{indices-of};
 use crate::place::Place;
@@ -50,6 +51,32 @@ pub fn insert_index(place: &Place, axis: usize, index: u32) -> Place
     let mut indices = [0; 8];
     for k in 0..rank {
         indices[k] = inserted_index(place, axis, index, k);
+    }
+    Place { rank, indices }
+}
+
+// The first indices of a place.
+pub fn first_axes(place: &Place, count: usize) -> Place
+    requires there { ⌜ count ≤ length (indices-of (now place)) ⌝ }
+    ensures { λ r. ⌜ indices-of r ≡ take count (indices-of (now (place .entry))) ⌝ }
+{
+    Place {
+        rank: count,
+        indices: place.indices,
+    }
+}
+
+// An index, and then those of a place but for the first `skip`.
+pub fn row_place(row: u32, place: &Place, skip: usize) -> Place
+    requires there { ⌜ skip ≤ length (indices-of (now place)) ⌝ }
+    requires few { ⌜ length (indices-of (now place)) < 8 + skip ⌝ }
+    ensures { λ r. ⌜ indices-of r ≡ row ∷ drop skip (indices-of (now (place .entry))) ⌝ }
+{
+    let rank = place.rank - skip + 1;
+    let mut indices = [0; 8];
+    indices[0] = row;
+    for k in 1..rank {
+        indices[k] = place.indices[skip + k - 1];
     }
     Place { rank, indices }
 }

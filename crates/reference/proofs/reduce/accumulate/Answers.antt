@@ -18,7 +18,7 @@ returns-then-count-eq0 c =
 
 pub loop-j-holds : need.loop-j-holds
 unfolding folded
-loop-j-holds c = c .get-total .ensures ∙ ap (λ is. array-of (c .args .array .now) .at is) (c .with-index .ensures)
+loop-j-holds c = c .get-first .ensures ∙ ap (λ is. array-of (c .args .array .now) .at is) (c .with-index .ensures)
 
 pub loop-j-again : need.loop-j-again
 loop-j-again c =
@@ -26,5 +26,5 @@ loop-j-again c =
     let e = binary64 .empty (c .args .op) in
     let g : ℕ → ℕ = λ j. array-of (c .args .array .now) .at (set (indices-of (c .args .place .now)) (c .args .axis) j) in
     let number = c .get-number .ensures ∙ ap (λ is. array-of (c .args .array .now) .at is) (c .with-index-in-loop-j .ensures) in
-    c .binary-total .ensures
+    c .binary-next .ensures
     ∙ (ap (λ x. f x (c .get-number .result)) (c .loop-j .inv) ∙ (ap (λ x. f (folded f e g (c .loop-j .j)) x) number ∙ sym (folded-more f e g (c .loop-j .j) (omega arith))))
