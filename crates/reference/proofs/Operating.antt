@@ -322,3 +322,50 @@ no-other-leaf leaf-name a b c d = a _ refl
 no-other-leaf leaf-input a b c d = b _ refl
 no-other-leaf leaf-constant a b c d = c _ refl
 no-other-leaf leaf-count a b c d = d _ refl
+
+-- no other steps have one operand, or two
+pub no-other-single : (s : Step) → arity-of s ≡ Single → ((k : Unary) → s ≡ Each k → ⊥) → ((k : Binary) (x : ℕ) → s ≡ Fold k x → ⊥) → ((k : Binary) (x : ℕ) → s ≡ Scan k x → ⊥) → (s ≡ Shape → ⊥) → (s ≡ Turn → ⊥) → (s ≡ Cut → ⊥) → ⊥
+no-other-single End a ea fo sc sh tu cu = zero-single a
+no-other-single (Let k) a ea fo sc sh tu cu = zero-single a
+no-other-single (Put k) a ea fo sc sh tu cu = zero-single a
+no-other-single Show a ea fo sc sh tu cu = zero-single a
+no-other-single (Again n) a ea fo sc sh tu cu = zero-single a
+no-other-single (Name k) a ea fo sc sh tu cu = zero-single a
+no-other-single (Input k) a ea fo sc sh tu cu = zero-single a
+no-other-single (Constant x) a ea fo sc sh tu cu = zero-single a
+no-other-single (Count m) a ea fo sc sh tu cu = zero-single a
+no-other-single (Each k) a ea fo sc sh tu cu = ea k refl
+no-other-single (Both k) a ea fo sc sh tu cu = double-single a
+no-other-single Choose a ea fo sc sh tu cu = triple-single a
+no-other-single (Fold k x) a ea fo sc sh tu cu = fo k x refl
+no-other-single (Scan k x) a ea fo sc sh tu cu = sc k x refl
+no-other-single Shape a ea fo sc sh tu cu = sh refl
+no-other-single Turn a ea fo sc sh tu cu = tu refl
+no-other-single Cut a ea fo sc sh tu cu = cu refl
+no-other-single (Join x) a ea fo sc sh tu cu = double-single a
+no-other-single Rows a ea fo sc sh tu cu = double-single a
+no-other-single (Item k) a ea fo sc sh tu cu = zero-single a
+no-other-single (Slice f b s m) a ea fo sc sh tu cu = zero-single a
+
+pub no-other-double : (s : Step) → arity-of s ≡ Double → ((k : Binary) → s ≡ Both k → ⊥) → ((x : ℕ) → s ≡ Join x → ⊥) → (s ≡ Rows → ⊥) → ⊥
+no-other-double End a bo jo ro = zero-double a
+no-other-double (Let k) a bo jo ro = zero-double a
+no-other-double (Put k) a bo jo ro = zero-double a
+no-other-double Show a bo jo ro = zero-double a
+no-other-double (Again n) a bo jo ro = zero-double a
+no-other-double (Name k) a bo jo ro = zero-double a
+no-other-double (Input k) a bo jo ro = zero-double a
+no-other-double (Constant x) a bo jo ro = zero-double a
+no-other-double (Count m) a bo jo ro = zero-double a
+no-other-double (Each k) a bo jo ro = single-double a
+no-other-double (Both k) a bo jo ro = bo k refl
+no-other-double Choose a bo jo ro = triple-double a
+no-other-double (Fold k x) a bo jo ro = single-double a
+no-other-double (Scan k x) a bo jo ro = single-double a
+no-other-double Shape a bo jo ro = single-double a
+no-other-double Turn a bo jo ro = single-double a
+no-other-double Cut a bo jo ro = single-double a
+no-other-double (Join x) a bo jo ro = jo x refl
+no-other-double Rows a bo jo ro = ro refl
+no-other-double (Item k) a bo jo ro = zero-double a
+no-other-double (Slice f b s m) a bo jo ro = zero-double a

@@ -17,9 +17,12 @@ use crate::apply::apply_both;
 use crate::apply::apply_choose;
 use crate::apply::apply_each;
 use crate::apply::apply_fold;
+use crate::apply::apply_join;
 use crate::apply::apply_part;
+use crate::apply::apply_rows;
 use crate::apply::apply_scan;
 use crate::apply::apply_shape;
+use crate::apply::apply_turn;
 use crate::array::Array;
 use crate::brackets::skip_brackets;
 use crate::fault::Stop;
@@ -102,8 +105,9 @@ fn apply_one(
         Step::Fold(op, axis) => apply_fold(heap, op, axis, array, count, left),
         Step::Scan(op, axis) => apply_scan(heap, op, axis, array, count, left),
         Step::Shape => apply_shape(heap, words, behind, array, count, left),
+        Step::Turn => apply_turn(heap, words, behind, array, count, left),
         Step::Part => apply_part(heap, words, behind, array, count, left),
-        _ => Err(Stop::Memory),
+        _ => unreachable(),
     }
 }
 
@@ -123,7 +127,9 @@ fn apply_two<'a>(
 {
     match step {
         Step::Both(op) => apply_both(heap, op, first, second, count, left),
-        _ => Err(Stop::Memory),
+        Step::Join(axis) => apply_join(heap, axis, first, second, count, left),
+        Step::Rows => apply_rows(heap, first, second, count, left),
+        _ => unreachable(),
     }
 }
 

@@ -12,14 +12,13 @@ ghost use Rattle.reference.specs.Right.{Right};
 use crate::array::Array;
 use crate::create::constant;
 use crate::create::count;
+use crate::decode::decode;
 use crate::fault::Fault;
 use crate::fault::Stop;
-use crate::load::load;
 use crate::made::Made;
 use crate::made::count_places;
 use crate::made::finish;
 use crate::names::Cell;
-use crate::names::holding::copy;
 use bytes::inputs::find_input;
 use std::alloc::Global;
 
@@ -30,7 +29,7 @@ fn take_copy(heap: Global, array: &Array, left: u64) -> Result<Made, Stop>
     let Some(total) = count_places(&array.shape, 0, left) else {
         return Err(Stop::Fault(Fault::Places));
     };
-    finish(copy(heap, array), total)
+    finish(array.copy(heap), total)
 }
 
 pub fn take_name(heap: Global, names: &Vec<Cell>, name: u32, left: u64) -> Result<Made, Stop>
@@ -57,7 +56,7 @@ pub fn take_input(heap: Global, inputs: &[u8], input: u32, left: u64) -> Result<
     let Some(total) = count_places(&head.shape, 0, left) else {
         return Err(Stop::Fault(Fault::Places));
     };
-    finish(load(heap, inputs, head.shape, head.start), total)
+    finish(decode(heap, inputs, head), total)
 }
 
 pub fn take_constant(heap: Global, value: u64, left: u64) -> Result<Made, Stop>

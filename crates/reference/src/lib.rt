@@ -12,7 +12,6 @@ pub mod evaluate;
 pub mod fault;
 pub mod gather;
 pub mod leaf;
-pub mod load;
 pub mod made;
 pub mod names;
 pub mod orders;

@@ -1,23 +1,9 @@
-// Names read: a copy of an array, and how many places all names hold.
+// How many places names hold.
 ghost use mathlib.Core.Path.{_≡_};
 ghost use Prim.Native.Nat.{_^_, _-_, min};
-ghost use Rattle.std.specs.Vec.{made};
 ghost use Rattle.semantics.specs.Programs.{cell-size, in-names};
-ghost use Rattle.reference.specs.ArrayOf.{array-of};
 ghost use Rattle.reference.specs.CellsOf.{cell-of, cells-of};
-use crate::array::Array;
 use crate::names::Cell;
-use std::alloc::AllocError;
-use std::alloc::Global;
-
-// The same array with numbers of its own.
-pub fn copy(heap: Global, array: &Array) -> Result<Array, AllocError>
-    ensures { λ r. ⌜ made r (λ a. array-of a ≡ array-of (now (array .entry))) ⌝ }
-{
-    let shape = array.shape;
-    let numbers = Vec::from_slice(heap, array.numbers.as_slice())?;
-    Ok(Array { shape, numbers })
-}
 
 fn cell_places(cell: &Cell) -> u64
     ensures { λ r. ⌜ r ≡ cell-size (cell-of (now (cell .entry))) ⌝ }

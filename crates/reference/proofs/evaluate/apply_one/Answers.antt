@@ -1,7 +1,6 @@
 use mathlib.Core.Path.{subst}
 use Rattle.reference.specs.Operands.{One}
-use Rattle.reference.specs.Right.{right-memory}
-use Rattle.reference.proofs.Operating.{at-each, at-fold, at-scan, at-shape, at-turn, at-part}
+use Rattle.reference.proofs.Operating.{at-each, at-fold, at-scan, at-shape, at-turn, at-part, no-other-single}
 use Rattle.reference.proofs.evaluate.apply_one.Needs as need
 
 pub returns-in-Each : need.returns-in-Each
@@ -24,5 +23,10 @@ pub returns-in-Part : need.returns-in-Part
 returns-in-Part c p e o f h =
     at-part (subst (λ s. One (c .args .words .now) (c .args .behind) (c .args .left) p s e o f) (c .in-Part .is) h) (c .apply-part .ensures)
 
-pub returns-in-rest : need.returns-in-rest
-returns-in-rest c p e o f h = right-memory
+pub returns-in-Turn : need.returns-in-Turn
+returns-in-Turn c p e o f h =
+    at-turn (subst (λ s. One (c .args .words .now) (c .args .behind) (c .args .left) p s e o f) (c .in-Turn .is) h) (c .apply-turn .ensures)
+
+pub unreachable-requires : need.unreachable-requires
+unreachable-requires c κs =
+    no-other-single (c .args .step) (c .pre .single) (c .in-rest .not-Each) (c .in-rest .not-Fold) (c .in-rest .not-Scan) (c .in-rest .not-Shape) (c .in-rest .not-Turn) (c .in-rest .not-Part)
