@@ -16,3 +16,5 @@ pub mod Rights
 pub mod Measured
 pub mod Operating
 pub mod Evaluating
+pub mod Stating
+pub mod Lining

@@ -26,7 +26,7 @@ use Rattle.reference.specs.Faults.{fault-number}
 use Rattle.reference.specs.Finishing.{finished}
 use Rattle.reference.specs.Right.{Right, right-made, right-fault, right-memory}
 
-twins-trans : {Num : Type 0} {a b c : Array Num} → Twins a b → Twins b c → Twins a c
+pub twins-trans : {Num : Type 0} {a b c : Array Num} → Twins a b → Twins b c → Twins a c
 twins-trans (twins s f g h) (twins _ _ k i) = twins s f k (λ is j. h is j ∙ i is j)
 
 twins-back : {Num : Type 0} {a b : Array Num} → Twins a b → Twins b a

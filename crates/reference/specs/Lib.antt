@@ -8,4 +8,6 @@ pub mod Right
 pub mod Operands
 pub mod Brackets
 pub mod Evaluation
+pub mod Running
+pub mod Lines
 pub mod PartsOf

@@ -1,8 +1,9 @@
-// How many places names hold.
+// How many places names hold, and a name that gets an array.
 ghost use mathlib.Core.Path.{_≡_};
 ghost use Prim.Native.Nat.{_^_, _-_, min};
 ghost use Rattle.semantics.specs.Programs.{cell-size, in-names};
-ghost use Rattle.reference.specs.CellsOf.{cell-of, cells-of};
+ghost use Rattle.reference.specs.CellsOf.{cell-of, cells-of, Puts};
+use crate::array::Array;
 use crate::names::Cell;
 
 fn cell_places(cell: &Cell) -> u64
@@ -23,4 +24,16 @@ pub fn held_places(names: &Vec<Cell>) -> u64
         places = places.saturating_add(cell_places(&names[k]));
     }
     places
+}
+
+// Whether a name is one of those there may be; if it is, it holds the array.
+pub fn put_cell(names: &mut Vec<Cell>, name: u32, array: Array) -> bool
+    ensures { λ r. ⌜ Puts (now (names .entry)) (now (names .exit)) name array r ⌝ }
+{
+    let k = name as usize;
+    if k >= names.len() {
+        return false;
+    }
+    names[k] = Cell::Holds(array);
+    true
 }
