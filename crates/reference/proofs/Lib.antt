@@ -18,3 +18,4 @@ pub mod Operating
 pub mod Evaluating
 pub mod Stating
 pub mod Lining
+pub mod Beginning

@@ -275,3 +275,58 @@ other-line (Slice f b s m) o a l u h = o
 
 pub no-other-line : (ws : List ℕ) (i : ℕ) (x : Step) → At ws i x → Runs ws i → plain x → ((k : ℕ) → x ≡ Let k → ⊥) → ((k : ℕ) → x ≡ Put k → ⊥) → (x ≡ Show → ⊥) → ⊥
 no-other-line ws i x at st a l u h = other-line x (runs-opens ws i x at refl st) a l u h
+
+-- lines from i to j, and then on from there
+module _ (ws bs : List ℕ) (p i j : ℕ) (old st : State) (inv : Lines-at ws bs p i j old st) where
+  pub lines-then : (k : ℕ) (new : State) → Lines-at ws bs p j k st new → Lines-at ws bs p i k old new
+  lines-then k new h =
+      record {
+        further = omega (arith, inv .further, h .further);
+        runs = h .runs;
+        fits = h .fits;
+        on = λ q r t cl e sd.
+            let g = inv .on q r t cl e sd in
+            let f = h .on (g .program) r (g .state) cl (g .enc) (g .stood) in
+            record { program = f .program; state = f .state; enc = f .enc; stood = f .stood; same = f .same ∙ g .same };
+      }
+
+  pub lines-then-run : (new : State) (out : Result ℕ Stop) → Lines-run ws bs p j st new out → Lines-run ws bs p i old new out
+  lines-then-run new out h =
+      record {
+        right = λ q r t cl e sd.
+            let g = inv .on q r t cl e sd in
+            subst (λ u. Lines-end ws new u r out) (g .same) (h .right (g .program) r (g .state) cl (g .enc) (g .stood));
+      }
+
+-- the exit of a `?`
+pub lines-exit : (ws bs : List ℕ) (p i : ℕ) (old new : State) (r : Result ℕ Stop) (x : Stop) → ErrBy r (λ y. y ≡ x) → Lines-run ws bs p i old new (Err x) → Lines-run ws bs p i old new r
+lines-exit ws bs p i old new r x b h =
+    let q = err-from-errBy r b in
+    subst (λ z. Lines-run ws bs p i old new z) (sym (q .1)) (subst (λ y. Lines-run ws bs p i old new (Err y)) (sym (q .2)) h)
+
+-- neither an end nor an `again`
+pub plain-other : (x : Step) → (x ≡ End → ⊥) → ((n : ℕ) → x ≡ Again n → ⊥) → plain x
+plain-other End e a = absurd (e refl)
+plain-other (Again n) e a = absurd (a n refl)
+plain-other (Let k) e a = tt
+plain-other (Put k) e a = tt
+plain-other Show e a = tt
+plain-other (Name k) e a = tt
+plain-other (Input k) e a = tt
+plain-other (Constant x) e a = tt
+plain-other (Counting m) e a = tt
+plain-other (Each k) e a = tt
+plain-other (Both k) e a = tt
+plain-other Choose e a = tt
+plain-other (Fold k x) e a = tt
+plain-other (Scan k x) e a = tt
+plain-other Shape e a = tt
+plain-other Turn e a = tt
+plain-other Cut e a = tt
+plain-other (Join x) e a = tt
+plain-other Rows e a = tt
+plain-other (Item k) e a = tt
+plain-other (Slice f b s m) e a = tt
+
+pub line-there : (ws : List ℕ) (i : ℕ) (x : Step) → At ws i x → i < length (steps-in ws)
+line-there ws i x at = at .there

@@ -10,4 +10,5 @@ pub mod Brackets
 pub mod Evaluation
 pub mod Running
 pub mod Lines
+pub mod Interpreting
 pub mod PartsOf

@@ -11,6 +11,7 @@ pub mod elementwise;
 pub mod evaluate;
 pub mod fault;
 pub mod gather;
+pub mod interpret;
 pub mod leaf;
 pub mod made;
 pub mod names;

@@ -11,7 +11,7 @@ abbrev pub μ-loop-step : given.MeasureT-loop-step
 μ-loop-step l = length (steps-in (l .words)) - l .at
 
 abbrev pub Inv-loop-i : given.InvT-loop-i
-Inv-loop-i l = Rounds (l .words) (l .inputs) (l .places) (l .node) (l .at) (l .count) (l .i) ? (l .state)
+Inv-loop-i l = Rounds (l .words) (l .inputs) (l .places) (l .at) (l .at) (l .count) (l .i) (l .entry .state) (l .state)
 
 abbrev pub μ-run-lines : given.MeasureT-run-lines
 μ-run-lines l = length (steps-in (l .words .now)) - l .node
