@@ -56,7 +56,13 @@ fn has_axis(shape: &Shape, axis: u32) -> bool
     (axis as usize) < shape.rank
 }
 
-pub fn apply_each(heap: Global, op: Unary, array: &Array, count: u64, left: u64) -> Result<Made, Stop>
+pub fn apply_each(
+    heap: Global,
+    op: Unary,
+    array: &Array,
+    count: u64,
+    left: u64,
+) -> Result<Made, Stop>
     requires small { ⌜ left ≤ 2 ^ 26 ⌝ }
     requires within { ⌜ count ≤ left ⌝ }
     ensures { λ r. ⌜ Right (on-each binary64 op left (array-of (now (array .entry))) count) r ⌝ }
@@ -112,7 +118,14 @@ pub fn apply_choose<'a>(
     finish(choose(heap, test, yes, other), total)
 }
 
-pub fn apply_fold(heap: Global, op: Binary, axis: u32, array: &Array, count: u64, left: u64) -> Result<Made, Stop>
+pub fn apply_fold(
+    heap: Global,
+    op: Binary,
+    axis: u32,
+    array: &Array,
+    count: u64,
+    left: u64,
+) -> Result<Made, Stop>
     requires small { ⌜ left ≤ 2 ^ 26 ⌝ }
     requires within { ⌜ count ≤ left ⌝ }
     ensures { λ r. ⌜ Right (on-fold binary64 op axis left (array-of (now (array .entry))) count) r ⌝ }
@@ -128,7 +141,14 @@ pub fn apply_fold(heap: Global, op: Binary, axis: u32, array: &Array, count: u64
     finish(fold(heap, op, along, array), total)
 }
 
-pub fn apply_scan(heap: Global, op: Binary, axis: u32, array: &Array, count: u64, left: u64) -> Result<Made, Stop>
+pub fn apply_scan(
+    heap: Global,
+    op: Binary,
+    axis: u32,
+    array: &Array,
+    count: u64,
+    left: u64,
+) -> Result<Made, Stop>
     requires small { ⌜ left ≤ 2 ^ 26 ⌝ }
     requires within { ⌜ count ≤ left ⌝ }
     ensures { λ r. ⌜ Right (on-scan binary64 op axis left (array-of (now (array .entry))) count) r ⌝ }
@@ -144,7 +164,13 @@ pub fn apply_scan(heap: Global, op: Binary, axis: u32, array: &Array, count: u64
 }
 
 // More lengths than a shape has places for are a fault only where their product is right.
-fn apply_lengths(heap: Global, lens: &[u32], array: &Array, count: u64, left: u64) -> Result<Made, Stop>
+fn apply_lengths(
+    heap: Global,
+    lens: &[u32],
+    array: &Array,
+    count: u64,
+    left: u64,
+) -> Result<Made, Stop>
     requires small { ⌜ left ≤ 2 ^ 26 ⌝ }
     requires within { ⌜ count ≤ left ⌝ }
     ensures { λ r. ⌜ ((p : ℕ) → Right (on-shape (sizes p) (now (lens .entry)) left (array-of (now (array .entry))) count) r) ⌝ }
@@ -180,7 +206,13 @@ pub fn apply_shape(
     }
 }
 
-fn apply_order<'a>(heap: Global, order: &'a [u32], array: &'a Array, count: u64, left: u64) -> Result<Made, Stop>
+fn apply_order<'a>(
+    heap: Global,
+    order: &'a [u32],
+    array: &'a Array,
+    count: u64,
+    left: u64,
+) -> Result<Made, Stop>
     requires small { ⌜ left ≤ 2 ^ 26 ⌝ }
     requires within { ⌜ count ≤ left ⌝ }
     ensures { λ r. ⌜ Right (on-turn (now (order .entry)) left (array-of (now (array .entry))) count) r ⌝ }
@@ -214,7 +246,13 @@ pub fn apply_turn(
     }
 }
 
-fn apply_slices<'a>(heap: Global, list: &'a [Slice], array: &'a Array, count: u64, left: u64) -> Result<Made, Stop>
+fn apply_slices<'a>(
+    heap: Global,
+    list: &'a [Slice],
+    array: &'a Array,
+    count: u64,
+    left: u64,
+) -> Result<Made, Stop>
     requires small { ⌜ left ≤ 2 ^ 26 ⌝ }
     requires within { ⌜ count ≤ left ⌝ }
     ensures { λ r. ⌜ Right (on-part (parts-of (now (list .entry))) left (array-of (now (array .entry))) count) r ⌝ }

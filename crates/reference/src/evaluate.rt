@@ -71,7 +71,13 @@ fn find_arity(step: Step) -> Arity
 }
 
 // A step without operands.
-fn apply_none(heap: Global, inputs: &[u8], names: &Vec<Cell>, step: Step, left: u64) -> Result<Made, Stop>
+fn apply_none(
+    heap: Global,
+    inputs: &[u8],
+    names: &Vec<Cell>,
+    step: Step,
+    left: u64,
+) -> Result<Made, Stop>
     requires small { ⌜ left ≤ 2 ^ 26 ⌝ }
     requires leaf { ⌜ ((e : Expr ℕ) × Leaf step e) ⌝ }
     ensures { λ r. ⌜ ((p : ℕ) (e : Expr ℕ) → Leaf step e → Right (value (sizes p) binary64 (inputs-of (now (inputs .entry))) (cells-of (now (names .entry))) left e) r) ⌝ }
@@ -173,7 +179,14 @@ pub fn evaluate(
             let rest = left - a.made.count - b.made.count;
             let d = evaluate(heap, words, inputs, names, b.next, rest)?;
             let count = a.made.count + b.made.count + d.made.count;
-            let made = apply_choose(heap, &a.made.array, &b.made.array, &d.made.array, count, left)?;
+            let made = apply_choose(
+                heap,
+                &a.made.array,
+                &b.made.array,
+                &d.made.array,
+                count,
+                left,
+            )?;
             Ok(Valued { made, next: d.next })
         }
     }

@@ -188,7 +188,16 @@ pub fn run_put(
         Err(_) => return Err(Stop::Memory),
     };
     let operand = skip_brackets(words, node);
-    let v = replace_name(heap, words, inputs, places, operand, list.as_slice(), &state.names, name)?;
+    let v = replace_name(
+        heap,
+        words,
+        inputs,
+        places,
+        operand,
+        list.as_slice(),
+        &state.names,
+        name,
+    )?;
     let Valued { made, next } = v;
     if !put_cell(&mut state.names, name, made.array) {
         return unreachable();
