@@ -19,19 +19,19 @@ use Rattle.semantics.proofs.Inside.{inside-which-one, Spreads, spreads-right, 
 use Rattle.semantics.proofs.Likes.{Twins, twins, alike-twins, twins-alike, twins-refl, at-numbers, value-likes}
 
 -- ---- names
-cell-size-like : {Num : Type 0} {c d : Cell Num} → Like-cells c d → cell-size c ≡ cell-size d
+pub cell-size-like : {Num : Type 0} {c d : Cell Num} → Like-cells c d → cell-size c ≡ cell-size d
 unfolding cell-size Alike
 cell-size-like like-none = refl
 cell-size-like (like-some a b h) = ap size (h .0)
 
-in-names-like : {Num : Type 0} (ns ms : List (Cell Num)) → Like-names ns ms → in-names ns ≡ in-names ms
+pub in-names-like : {Num : Type 0} (ns ms : List (Cell Num)) → Like-names ns ms → in-names ns ≡ in-names ms
 unfolding in-names
 in-names-like [] [] h = refl
 in-names-like [] (d ∷ ms) h = omega (arith, cell-size-like (h 0), in-names-like [] ms (λ k. h (suc k)))
 in-names-like (c ∷ ns) [] h = omega (arith, cell-size-like (h 0), in-names-like ns [] (λ k. h (suc k)))
 in-names-like (c ∷ ns) (d ∷ ms) h = omega (arith, cell-size-like (h 0), in-names-like ns ms (λ k. h (suc k)))
 
-like-set : {Num : Type 0} (ns ms : List (Cell Num)) (k : ℕ) {c d : Cell Num} → length ns ≡ length ms → Like-names ns ms → Like-cells c d → Like-names (set ns k c) (set ms k d)
+pub like-set : {Num : Type 0} (ns ms : List (Cell Num)) (k : ℕ) {c d : Cell Num} → length ns ≡ length ms → Like-names ns ms → Like-cells c d → Like-names (set ns k c) (set ms k d)
 like-set [] [] k l h e j = h j
 like-set [] (y ∷ ms) k l h e j = absurd (omega arith)
 like-set (x ∷ ns) [] k l h e j = absurd (omega arith)
@@ -47,7 +47,7 @@ numbers-at-same s f g i zero h = refl
 numbers-at-same s f g i (suc n) h =
     ap₂ (λ x l. x ∷ l) (h i (omega arith)) (numbers-at-same s f g (suc i) n (λ k l. h k (omega arith)))
 
-listed-same : {Num : Type 0} {a b : Array Num} → Twins a b → listed a ≡ listed b
+pub listed-same : {Num : Type 0} {a b : Array Num} → Twins a b → listed a ≡ listed b
 unfolding listed
 listed-same (twins s f g h) = ap (λ l. record { shape = s; numbers = l }) (numbers-at-same s f g 0 (size s) (at-numbers s f g h))
 
@@ -56,7 +56,7 @@ listed-same (twins s f g h) = ap (λ l. record { shape = s; numbers = l }) (numb
 inside-put : (ps : List Part) (t : List ℕ) → fit (part-shape ps) t ≡ true → same (wide (part-shape ps) t) (part-shape ps) ≡ true → Spreads t (part-shape ps)
 inside-put ps t e q = subst (λ w. Spreads t w) (same-true _ _ q) (spreads-right (part-shape ps) t e)
 
-put-twins : {Num : Type 0} (ps : List Part) {a a′ b b′ : Array Num} → Twins a a′ → Twins b b′ → can-put ps b ≡ true → Twins (put-array ps a b) (put-array ps a′ b′)
+pub put-twins : {Num : Type 0} (ps : List Part) {a a′ b b′ : Array Num} → Twins a a′ → Twins b b′ → can-put ps b ≡ true → Twins (put-array ps a b) (put-array ps a′ b′)
 unfolding can-put put-array
 put-twins ps (twins s f f′ h) (twins t g g′ i) e =
     let (e₀, e₁) = and-parts (fit (part-shape ps) t) (same (wide (part-shape ps) t) (part-shape ps)) e in
@@ -68,7 +68,7 @@ like-stopped : {Num : Type 0} {t u : State Num} (e : ℕ) → Like-states t u �
 unfolding stopped
 like-stopped e h = record { many = h .many; names = h .names; shown = h .shown; ended = refl }
 
-like-with-name : {Num : Type 0} {t u : State Num} (k : ℕ) {a b : Array Num} → Like-states t u → Twins a b → Like-states (with-name t k a) (with-name u k b)
+pub like-with-name : {Num : Type 0} {t u : State Num} (k : ℕ) {a b : Array Num} → Like-states t u → Twins a b → Like-states (with-name t k a) (with-name u k b)
 unfolding with-name
 like-with-name {t} {u} k h e =
     record {
@@ -139,7 +139,7 @@ module _ {Num : Type 0} (s : Sizes) (z : Numbers Num) (xs ys : List (Array Num))
 pub run-reads-places : (Num : Type 0) → Run-reads-places Num
 run-reads-places Num s z xs ys p t u hx h = run-likes s z xs ys hx p t u h
 
-like-cell : {Num : Type 0} (c : Cell Num) → Like-cells c c
+pub like-cell : {Num : Type 0} (c : Cell Num) → Like-cells c c
 like-cell none = like-none
 like-cell (some a) = like-some a a (alike-twins (twins-refl a))
 

@@ -38,21 +38,21 @@ pub twins-refl : {Num : Type 0} (a : Array Num) → Twins a a
 twins-refl a = twins (a .shape) (a .at) (a .at) (λ is i. refl)
 
 -- ---- going on, one more array, a test
-likes-then : {Num : Type 0} {v w : Value Num} (f g : Array Num → ℕ → Value Num) → Like-values v w → ((a b : Array Num) → Twins a b → (c : ℕ) → Like-values (f a c) (g b c)) → Like-values (then v f) (then w g)
+pub likes-then : {Num : Type 0} {v w : Value Num} (f g : Array Num → ℕ → Value Num) → Like-values v w → ((a b : Array Num) → Twins a b → (c : ℕ) → Like-values (f a c) (g b c)) → Like-values (then v f) (then w g)
 unfolding then
 likes-then f g (like-fault e) k = like-fault e
 likes-then f g (like-val a b c h) k = k a b (twins-alike a b h) c
 
-likes-made : {Num : Type 0} (n c : ℕ) {a b : Array Num} → Twins a b → Like-values (made n c a) (made n c b)
+pub likes-made : {Num : Type 0} (n c : ℕ) {a b : Array Num} → Twins a b → Like-values (made n c a) (made n c b)
 unfolding made
 likes-made n c (twins s f g h) =
     pick-two Like-values (leb (c + size s) n) (like-val _ _ _ (alike-twins (twins s f g h))) (like-fault 5)
 
-likes-if : {Num : Type 0} (b : Bool) (e : ℕ) (v w : Value Num) → (b ≡ true → Like-values v w) → Like-values (pick b v (fault e)) (pick b w (fault e))
+pub likes-if : {Num : Type 0} (b : Bool) (e : ℕ) (v w : Value Num) → (b ≡ true → Like-values v w) → Like-values (pick b v (fault e)) (pick b w (fault e))
 likes-if true e v w h = h refl
 likes-if false e v w h = like-fault e
 
-likes-held : {Num : Type 0} (n : ℕ) {c d : Cell Num} → Like-cells c d → Like-values (held n c) (held n d)
+pub likes-held : {Num : Type 0} (n : ℕ) {c d : Cell Num} → Like-cells c d → Like-values (held n c) (held n d)
 unfolding held
 likes-held n like-none = like-fault 6
 likes-held n (like-some a b h) = likes-made n 0 (twins-alike a b h)
@@ -90,17 +90,17 @@ pub at-numbers : {Num : Type 0} (s : List ℕ) (f g : List ℕ → Num) → ((is
 at-numbers s f g h k l = h (unflat s k) (inside-unflat s k (omega arith))
 
 module _ {Num : Type 0} (z : Numbers Num) (n c : ℕ) where
-  likes-on-each : (k : Unary) {a b : Array Num} → Twins a b → Like-values (on-each z k n a c) (on-each z k n b c)
+  pub likes-on-each : (k : Unary) {a b : Array Num} → Twins a b → Like-values (on-each z k n a c) (on-each z k n b c)
   unfolding on-each
   likes-on-each k (twins s f g h) = likes-made n c (twins s _ _ (λ is i. ap (z .one k) (h is i)))
 
-  likes-on-both : (k : Binary) {a a′ b b′ : Array Num} → Twins a a′ → Twins b b′ → Like-values (on-both z k n a b c) (on-both z k n a′ b′ c)
+  pub likes-on-both : (k : Binary) {a a′ b b′ : Array Num} → Twins a a′ → Twins b b′ → Like-values (on-both z k n a b c) (on-both z k n a′ b′ c)
   unfolding on-both
   likes-on-both k (twins s f f′ h) (twins t g g′ i) =
       likes-if (fit s t) 1 _ _
       (λ e. likes-made n c (twins (wide s t) _ _ (λ is j. ap₂ (z .two k) (h _ (inside-narrow (spreads-left s t) j)) (i _ (inside-narrow (spreads-right s t e) j)))))
 
-  likes-on-choose : {a a′ b b′ d d′ : Array Num} → Twins a a′ → Twins b b′ → Twins d d′ → Like-values (on-choose z n a b d c) (on-choose z n a′ b′ d′ c)
+  pub likes-on-choose : {a a′ b b′ d d′ : Array Num} → Twins a a′ → Twins b b′ → Twins d d′ → Like-values (on-choose z n a b d c) (on-choose z n a′ b′ d′ c)
   unfolding on-choose
   likes-on-choose (twins s f f′ h) (twins t g g′ i) (twins u r r′ j) =
       likes-if (fit s t && fit (wide s t) u) 1 _ _
@@ -112,13 +112,13 @@ module _ {Num : Type 0} (z : Numbers Num) (n c : ℕ) where
       picked : {b b′ : Bool} {x x′ y y′ : Num} → b ≡ b′ → x ≡ x′ → y ≡ y′ → pick b x y ≡ pick b′ x′ y′
       picked p q r = cc
 
-  likes-on-fold : (k : Binary) (x : ℕ) {a b : Array Num} → Twins a b → Like-values (on-fold z k x n a c) (on-fold z k x n b c)
+  pub likes-on-fold : (k : Binary) (x : ℕ) {a b : Array Num} → Twins a b → Like-values (on-fold z k x n a c) (on-fold z k x n b c)
   unfolding on-fold
   likes-on-fold k x (twins s f g h) =
       likes-if (ltb x (length s)) 2 _ _
       (λ e. likes-made n c (twins (without x s) _ _ (λ is i. folded-same (z .two k) (z .empty k) _ _ (getD s x 0) (λ j l. h _ (inside-put-in x j s is l i)))))
 
-  likes-on-scan : (k : Binary) (x : ℕ) {a b : Array Num} → Twins a b → Like-values (on-scan z k x n a c) (on-scan z k x n b c)
+  pub likes-on-scan : (k : Binary) (x : ℕ) {a b : Array Num} → Twins a b → Like-values (on-scan z k x n a c) (on-scan z k x n b c)
   unfolding on-scan
   likes-on-scan k x (twins s f g h) =
       likes-if (ltb x (length s)) 2 _ _
@@ -127,7 +127,7 @@ module _ {Num : Type 0} (z : Numbers Num) (n c : ℕ) where
       at-axis : (is : List ℕ) (j : ℕ) → Inside s is → getD is x 0 < getD s x 0 → j < suc (getD is x 0) → Inside s (set is x j)
       at-axis is j i p l = rw set-getD at (inside-set x (getD s x 0) j i (omega arith))
 
-  likes-on-shape : (s : Sizes) (t : List ℕ) {a b : Array Num} → Twins a b → Like-values (on-shape s t n a c) (on-shape s t n b c)
+  pub likes-on-shape : (s : Sizes) (t : List ℕ) {a b : Array Num} → Twins a b → Like-values (on-shape s t n a c) (on-shape s t n b c)
   unfolding on-shape
   likes-on-shape s t (twins u f g h) =
       likes-if (eqb (size t) (size u) && leb (size t) 9007199254740992) 3 _ _
@@ -137,17 +137,17 @@ module _ {Num : Type 0} (z : Numbers Num) (n c : ℕ) where
       as-many : {k : ℕ} → eqb (size t) (size u) ≡ true → k < size t → k < size u
       as-many e l = omega (arith, eqb-true (size t) (size u) e)
 
-  likes-on-turn : (os : List ℕ) {a b : Array Num} → Twins a b → Like-values (on-turn os n a c) (on-turn os n b c)
+  pub likes-on-turn : (os : List ℕ) {a b : Array Num} → Twins a b → Like-values (on-turn os n a c) (on-turn os n b c)
   unfolding on-turn
   likes-on-turn os (twins s f g h) =
       likes-if (is-order os (length s)) 2 _ _ (λ e. likes-made n c (twins _ _ _ (λ is i. h _ (inside-turned-back os s is e i))))
 
-  likes-on-part : (ps : List Part) {a b : Array Num} → Twins a b → Like-values (on-part ps n a c) (on-part ps n b c)
+  pub likes-on-part : (ps : List Part) {a b : Array Num} → Twins a b → Like-values (on-part ps n a c) (on-part ps n b c)
   unfolding on-part
   likes-on-part ps (twins s f g h) =
       likes-if (parts-fit ps s) 4 _ _ (λ e. likes-made n c (twins _ _ _ (λ is i. h _ (inside-places-of ps s e i))))
 
-  likes-on-join : (x : ℕ) {a a′ b b′ : Array Num} → Twins a a′ → Twins b b′ → Like-values (on-join x n a b c) (on-join x n a′ b′ c)
+  pub likes-on-join : (x : ℕ) {a a′ b b′ : Array Num} → Twins a a′ → Twins b b′ → Like-values (on-join x n a b c) (on-join x n a′ b′ c)
   unfolding on-join
   likes-on-join x (twins s f f′ h) (twins t g g′ i) =
       likes-if (ltb x (length s)) 2 _ _
@@ -163,7 +163,7 @@ module _ {Num : Type 0} (z : Numbers Num) (n c : ℕ) where
           (λ p. h is (inside-first s is x _ j (ltb-true _ _ p)))
           (λ p. i _ (inside-second s t is x _ _ (eqb-true _ _ e₀) (same-true _ _ e₂) j (omega (arith, ltb-false _ _ p))))
 
-  likes-on-rows : (r : Sizes) {a a′ b b′ : Array Num} → Twins a a′ → Twins b b′ → Like-values (on-rows r z n a b c) (on-rows r z n a′ b′ c)
+  pub likes-on-rows : (r : Sizes) {a a′ b b′ : Array Num} → Twins a a′ → Twins b b′ → Like-values (on-rows r z n a b c) (on-rows r z n a′ b′ c)
   unfolding on-rows
   likes-on-rows r (twins s f f′ h) (twins t g g′ i) =
       likes-if (leb 1 (length s)) 2 _ _

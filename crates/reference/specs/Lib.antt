@@ -1,0 +1,14 @@
+pub mod IndicesOf
+pub mod ArrayOf
+pub mod Broadcasts
+pub mod Faults
+pub mod CellsOf
+pub mod Finishing
+pub mod Right
+pub mod Operands
+pub mod Brackets
+pub mod Evaluation
+pub mod Running
+pub mod Lines
+pub mod Interpreting
+pub mod PartsOf
