@@ -1,4 +1,5 @@
-// What is written for people: arrays as lines of text.
+// What is written for people: arrays as lines of text, and what the programs print.
+pub mod console;
 mod digits;
 mod listing;
 
