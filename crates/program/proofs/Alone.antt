@@ -8,7 +8,7 @@ use Rattle.semantics.specs.Parts.{Part}
 use Rattle.semantics.specs.Values.{Expr, name, input, constant, count, each, both, choose, fold, scan, shape-to, turn, part, join, rows}
 use Rattle.semantics.specs.Programs.{Program, end, be, put, show, again}
 use Rattle.program.specs.declared.step.Step.{Step}
-use Rattle.program.specs.declared.step.Step.the-variants.{End, Let, Put, Show, Again, Name, Input, Constant, Count, Each, Both, Choose, Fold, Scan, Shape, Turn, Part as Cut, Join, Rows, Item, Slice}
+use Rattle.program.specs.declared.step.Step.the-variants.{End, Let, Put, Show, Again, Name, Input, Constant, Count, Each, Both, Choose, Fold, Scan, Shape, Turn, Part as Cut, Join, Rows, Item}
 use Rattle.program.specs.Spelling.{items, slices, spell, spell-program}
 use Rattle.program.specs.Standing.{Closed, nothing, closed, View, is-name, is-input, is-constant, is-count, is-each, is-both, is-choose, is-fold, is-scan, is-shape, is-turn, is-part, is-join, is-rows, Lines-view, is-end, is-let, is-put, is-show, is-again}
 use Rattle.program.proofs.Views.{cons-first, cons-rest, same-part, view-spell, view-lines, view-no-lines, opens}

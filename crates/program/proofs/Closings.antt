@@ -1,11 +1,10 @@
 -- Lines are passed whole: what closes them is the `End` behind them.
 use mathlib.Core.Path.{_≡_, refl, sym, ap, _∙_}
 use mathlib.Core.List.{List, [], _∷_}
-use Prim.Native.Nat.{ℕ, zero, suc, _+_, _<_, _≤_}
+use Prim.Native.Nat.{ℕ, suc, _+_, _≤_}
 use native.Mathlib.Numerals.{add-one}
 use native.Mathlib.Omega.{arith}
 use lib.ListN.{length}
-use Rattle.std.specs.declared.option.Option.{Option}
 use Rattle.std.specs.declared.option.Option.the-variants.{Some, None}
 use Rattle.semantics.specs.Parts.{Part}
 use Rattle.semantics.specs.Values.{Expr, name, input, constant, count, each, both, choose, fold, scan, shape-to, turn, part, join, rows}
@@ -15,7 +14,7 @@ use Rattle.program.specs.declared.step.Step.the-variants.{End, Let, Put, Show,
 use Rattle.program.specs.Spelling.{items, slices, spell, spell-program}
 use Rattle.program.specs.Words.{steps-in, At}
 use Rattle.program.specs.Standing.{steps-from, Closes, Runs, Lines-view, is-again}
-use Rattle.program.specs.Closing.{Bracket, neither, bracket, past, closing, Ends-at}
+use Rattle.program.specs.Closing.{neither, bracket, past, closing, Ends-at}
 use Rattle.program.proofs.Nodes.{from-at, from-past, lines-view}
 
 closing-items : (ks : List ℕ) (r : List Step) (d : ℕ) → closing d (items ks r) ≡ closing d r

@@ -1,10 +1,9 @@
 -- What a text can say fits its words.
-use mathlib.Core.Path.{_≡_, refl}
 use mathlib.Core.Bool.{true, false}
 use mathlib.Core.List.{List, [], _∷_}
-use Prim.Native.Nat.{ℕ, zero, suc, _+_, _*_, _/_, _%_, _^_, _<_, _≤_, max}
+use Prim.Native.Nat.{ℕ, zero, suc, _*_, _^_, _<_, _≤_}
 use native.Mathlib.Omega.{arith}
-use lib.ListN.{length, getD}
+use lib.ListN.{getD}
 use Rattle.semantics.specs.declared.operation.Unary.{Unary}
 use Rattle.semantics.specs.declared.operation.Unary.the-variants.{Neg, Abs, Sqrt, Floor, Not}
 use Rattle.semantics.specs.declared.operation.Binary.{Binary}
@@ -15,9 +14,9 @@ use Rattle.semantics.specs.Programs.{Program, end, be, put, show, again}
 use Rattle.program.specs.declared.step.Step.{Step}
 use Rattle.program.specs.declared.step.Step.the-variants.{End, Let, Put, Show, Again, Name, Input, Constant, Count, Each, Both, Choose, Fold, Scan, Shape, Turn, Part as Cut, Join, Rows, Item, Slice}
 use Rattle.program.specs.Spelling.{items, slices, spell, spell-program}
-use Rattle.program.specs.Marks.{marks, long}
+use Rattle.program.specs.Marks.{long}
 use Rattle.program.specs.Words.{words-of, unary-code, binary-code}
-use Rattle.program.specs.Sayable.{Small-all, small-none, small-more, Small-part, Small-parts, parts-none, parts-more, Sayable, say-name, say-input, say-constant, say-count, say-each, say-both, say-choose, say-fold, say-scan, say-shape, say-turn, say-part, say-join, say-rows, Sayable-program, say-end, say-let, say-put, say-show, say-again, deep, Fits-words, Fit-all, fit-none, fit-more}
+use Rattle.program.specs.Sayable.{Small-all, small-none, small-more, Small-parts, parts-none, parts-more, Sayable, say-name, say-input, say-constant, say-count, say-each, say-both, say-choose, say-fold, say-scan, say-shape, say-turn, say-part, say-join, say-rows, Sayable-program, say-end, say-let, say-put, say-show, say-again, deep, Fits-words, Fit-all, fit-more}
 
 fit-items : {ks : List ℕ} {r : List Step} → Small-all ks → Fit-all r → Fit-all (items ks r)
 unfolding items

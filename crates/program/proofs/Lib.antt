@@ -5,3 +5,5 @@ pub mod Nodes
 pub mod Alone
 pub mod Closings
 pub mod Fitting
+pub mod Leadings
+pub mod Behinds

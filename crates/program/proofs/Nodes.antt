@@ -1,22 +1,22 @@
 -- What stands at a node, by the step that is read there, and at the nodes behind it.
-use mathlib.Core.Path.{_≡_, refl, sym, ap, subst, _∙_}
+use mathlib.Core.Path.{_≡_, refl, sym, ap, _∙_}
 use mathlib.Core.Bool.{Bool}
 use mathlib.Core.List.{List, [], _∷_}
 use Prim.Native.Nat.{ℕ, _+_, _-_, _≤_, _<_}
 use native.Mathlib.Omega.{arith}
-use lib.ListN.{length, getD, drop, length-drop}
+use lib.ListN.{length, drop, length-drop}
 use Rattle.std.proofs.shelf.Lists.{drop-more, drop-all, drop-drop}
 use Rattle.semantics.specs.declared.operation.Unary.{Unary}
 use Rattle.semantics.specs.declared.operation.Binary.{Binary}
 use Rattle.semantics.specs.Parts.{Part}
-use Rattle.semantics.specs.Values.{Expr, name, input, constant, count, each, both, choose, fold, scan, shape-to, turn, part, join, rows}
-use Rattle.semantics.specs.Programs.{Program, end, be, put, show, again}
+use Rattle.semantics.specs.Values.{Expr, each}
+use Rattle.semantics.specs.Programs.{Program, end}
 use Rattle.program.specs.declared.step.Step.{Step}
-use Rattle.program.specs.declared.step.Step.the-variants.{End, Let, Put, Show, Again, Name, Input, Constant, Count, Each, Both, Choose, Fold, Scan, Shape, Turn, Part as Cut, Join, Rows, Item, Slice}
+use Rattle.program.specs.declared.step.Step.the-variants.{End, Let, Put, Show, Again, Each, Both, Choose, Fold, Scan, Shape, Turn, Part as Cut, Join, Rows, Item, Slice}
 use Rattle.program.specs.Spelling.{items, slices, spell, spell-program}
 use Rattle.program.specs.Marks.{marks, long}
 use Rattle.program.specs.Words.{steps-in, At}
-use Rattle.program.specs.Standing.{steps-from, Stands, Items-stand, Slices-stand, Closed, nothing, closed, Runs, Skips, Skips-slices, Closes, First-item, First-slice, View, is-name, is-input, is-constant, is-count, is-each, is-both, is-choose, is-fold, is-scan, is-shape, is-turn, is-part, is-join, is-rows, Opens, Opens-line, Items-view, item, no-item, Slices-view, slice, no-slice, Lines-view, is-end, is-let, is-put, is-show, is-again}
+use Rattle.program.specs.Standing.{steps-from, Stands, Items-stand, Slices-stand, Closed, nothing, closed, Runs, Skips, Skips-slices, Closes, First-item, First-slice, View, is-each, is-both, is-choose, is-fold, is-scan, is-shape, is-turn, is-part, is-join, is-rows, Opens, Opens-line, Items-view, item, no-item, Slices-view, Lines-view, is-let, is-put, is-show, is-again}
 use Rattle.program.proofs.Views.{view-spell, view-items, view-slices, view-lines, view-no-lines, opens, opens-line, cons-first, cons-rest, same-part}
 use Rattle.program.proofs.Lengths.{length-items, length-slices, length-spell, length-program, marks-some, drop-items, drop-slices, drop-spell, drop-program}
 
@@ -36,6 +36,14 @@ from-at ws i s h = drop-more (steps-in ws) i End (h .there) ∙ ap (λ x. x ∷ 
 pub from-more : (ws : List ℕ) (i n : ℕ) → drop n (steps-from ws i) ≡ steps-from ws (i + n)
 unfolding steps-from
 from-more ws i n = drop-drop n i (steps-in ws)
+
+-- from the first node on all steps: a program that the words are stands there
+pub from-start : (ws : List ℕ) → steps-from ws 0 ≡ steps-in ws
+unfolding steps-from
+from-start ws = refl
+
+pub runs-start : (ws : List ℕ) (p : Program ℕ) → steps-in ws ≡ spell-program p [] → Runs ws 0
+runs-start ws p h = record { program = p; rest = []; close = nothing; enc = from-start ws ∙ h }
 
 -- an expression, lines: where they stand there is a step, and what is behind them is further on
 pub expr-there : (ws : List ℕ) (i : ℕ) (e : Expr ℕ) (r : List Step) → steps-from ws i ≡ spell e r → i < length (steps-in ws)

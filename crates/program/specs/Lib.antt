@@ -2,6 +2,8 @@ pub mod Spelling
 pub mod Marks
 pub mod Words
 pub mod Standing
-pub mod StepLaws
+pub mod Leading
+pub mod Behind
 pub mod Closing
+pub mod StepLaws
 pub mod Sayable

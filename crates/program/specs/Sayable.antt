@@ -1,6 +1,5 @@
 -- Programs that a text can say: names below 64, constants that are patterns of numbers, all other numbers below 2^32. What is a
 -- pattern is a parameter.
-use mathlib.Core.Path.{_≡_}
 use mathlib.Core.List.{List, [], _∷_}
 use Prim.Native.Nat.{ℕ, _+_, _*_, _^_, _<_, _≤_, max}
 use Rattle.semantics.specs.declared.operation.Unary.{Unary}

@@ -1,6 +1,5 @@
 -- What stands at a node: an expression, the items of brackets with their operand behind them, or lines of a program.
 use mathlib.Core.Path.{_≡_}
-use mathlib.Core.Bool.{Bool}
 use mathlib.Core.List.{List, [], _∷_}
 use Prim.Native.Nat.{ℕ}
 use lib.ListN.{drop}

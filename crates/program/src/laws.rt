@@ -1,5 +1,5 @@
 // What holds of all steps, each law as the contract of a function.
-ghost use Rattle.program.specs.StepLaws.{Words-back, One-expression, One-program, As-many-steps};
+ghost use Rattle.program.specs.StepLaws.{Words-back, One-expression, One-program, As-many-steps, Ends-found, Lists-found};
 ghost use Rattle.program.specs.Sayable.{Sayable-fits, Deep-takes-steps};
 
 // Words give back the step and the place that they were written for.
@@ -26,6 +26,20 @@ pub fn one_program_stands() -> u8
 // A program has as many steps as its text has marks.
 pub fn as_many_steps_stands() -> u8
     ensures { λ _. ⌜ As-many-steps ⌝ }
+{
+    0
+}
+
+// What is behind an expression, and behind the lines of an `again`, is found.
+pub fn ends_found_stands() -> u8
+    ensures { λ _. ⌜ Ends-found ⌝ }
+{
+    0
+}
+
+// The items and slices before an operand are found, and no more.
+pub fn lists_found_stands() -> u8
+    ensures { λ _. ⌜ Lists-found ⌝ }
 {
     0
 }

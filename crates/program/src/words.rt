@@ -6,6 +6,7 @@ ghost use Rattle.std.specs.Options.{Cases as BySome};
 ghost use Rattle.std.specs.declared.option.Option.the-variants.{None};
 ghost use Rattle.program.specs.Standing.{steps-from};
 ghost use Rattle.program.specs.Closing.{closing, Ends-at};
+ghost use Rattle.program.specs.Behind.{awaits, behind, Behind-at};
 ghost use Rattle.program.specs.Words.{unary-code, binary-code, unary-of, binary-of, words-of, step-of, steps-in, place-in, At, Stores};
 use crate::step::Step;
 use semantics::operation::Binary;
@@ -214,4 +215,49 @@ pub fn find_end(words: &[u32], node: usize) -> Option<usize>
         }
     }
     None
+}
+
+// How many expressions a step awaits behind it.
+fn awaited(step: Step) -> usize
+    ensures { λ r. ⌜ r ≡ awaits step ⌝ }
+{
+    match step {
+        Step::Each(_) => 1,
+        Step::Both(_) => 2,
+        Step::Choose => 3,
+        Step::Fold(_, _) => 1,
+        Step::Scan(_, _) => 1,
+        Step::Shape => 1,
+        Step::Turn => 1,
+        Step::Part => 1,
+        Step::Join(_) => 2,
+        Step::Rows => 2,
+        Step::Item(_) => 1,
+        Step::Slice(_, _, _, _) => 1,
+        Step::End => 0,
+        Step::Let(_) => 0,
+        Step::Put(_) => 0,
+        Step::Show => 0,
+        Step::Again(_) => 0,
+        Step::Name(_) => 0,
+        Step::Input(_) => 0,
+        Step::Constant(_) => 0,
+        Step::Count(_) => 0,
+    }
+}
+
+// The step behind the expression at `node`, or none where the steps end before it does.
+pub fn find_behind(words: &[u32], node: usize) -> Option<usize>
+    ensures { λ r. ⌜ BySome r (behind 1 (steps-from (now (words .entry)) node) ≡ None) (λ j. Behind-at (now (words .entry)) node j) ⌝ }
+{
+    let mut wanted: usize = 1;
+    let mut at = node;
+    while wanted > 0 {
+        let Some(step) = step_at(words, at) else {
+            return None;
+        };
+        wanted = wanted - 1 + awaited(step);
+        at += 1;
+    }
+    Some(at)
 }
