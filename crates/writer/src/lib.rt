@@ -2,6 +2,7 @@
 pub mod console;
 mod digits;
 mod listing;
+mod texts;
 
 pub use digits::hex_digits;
 pub use listing::list_array;

@@ -1,0 +1,37 @@
+-- The spellings of names: which there are, and that they are names.
+use mathlib.Core.Path.{_≡_, refl, sym, ap, subst, _∙_}
+use mathlib.Core.Bool.{Bool, true, false, _&&_, _||_, not}
+use mathlib.Core.List.{List, [], _∷_, map}
+use Prim.Native.Nat.{ℕ, zero, suc, _+_, _/_, _%_, _<_, _≤_}
+use native.Mathlib.Nat.{zero-add}
+use native.Mathlib.Omega.{arith}
+use lib.Dec.{ltb}
+use lib.ListN.{length, getD, take}
+use Rattle.std.specs.Iters.{counting}
+use Rattle.std.proofs.shelf.Lists.{getD-map, getD-past, length-map}
+use Rattle.std.proofs.shelf.Lanes.{length-counting, getD-counting}
+use Rattle.std.proofs.shelf.Tests.{lt-ltb, le-ltb}
+use Rattle.semantics.specs.Shapes.{pick}
+use Rattle.grammar.specs.Words.{Word, same-word, is-some, itself, is-name, shaped, reserved, heads, head-word, kept-words, is-letter, is-digit, in-word, all-in-word, are-names, unary-word, binary-word}
+use Rattle.writer.specs.Spellings.{spelled, spellings, Spellings-are-names}
+
+pub spelled-at : (k : ℕ) → k < 64 → getD spellings k [] ≡ spelled k
+unfolding spellings
+spelled-at k h =
+    getD-map spelled (counting 0 64) k 0 [] h ∙ ap spelled (getD-counting 0 64 k 0 h ∙ zero-add k)
+
+pub spelled-past : (k : ℕ) → 64 ≤ k → getD spellings k [] ≡ []
+unfolding spellings
+spelled-past k h = getD-past (map spelled (counting 0 64)) k [] h
+
+pub all-are-names : are-names spellings ≡ true
+unfolding spellings spelled are-names is-name shaped reserved is-some same-word heads head-word kept-words is-letter is-digit in-word all-in-word unary-word binary-word
+all-are-names = refl
+
+pub spelled-low : (k : ℕ) → k < 26 → getD spellings k [] ≡ (97 + k % 26) ∷ []
+unfolding spelled
+spelled-low k h = spelled-at k (omega arith) ∙ ap (λ b. (97 + k % 26) ∷ pick b [] ((48 + k / 26) ∷ [])) (lt-ltb k 26 h)
+
+pub spelled-high : (k : ℕ) → 26 ≤ k → k < 64 → getD spellings k [] ≡ (97 + k % 26) ∷ (48 + k / 26) ∷ []
+unfolding spelled
+spelled-high k l h = spelled-at k h ∙ ap (λ b. (97 + k % 26) ∷ pick b [] ((48 + k / 26) ∷ [])) (le-ltb k 26 l)

@@ -1,0 +1,3 @@
+// A program's text, from its steps.
+mod room;
+mod steps;
