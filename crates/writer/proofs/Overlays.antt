@@ -54,9 +54,9 @@ laid-past old at b h = record { is = sym (set-past old at b h); ends = refl }
 
 pub laid-more : {old mid new xs ys : List ℕ} {at i j : ℕ} → Laid old at xs mid i → Laid mid i ys new j → Laid old at (xs ++ ys) new j
 laid-more {old} {mid} {new} {xs} {ys} {at} {i} {j} p q = record {
-    is = q .is ∙ (ap (λ l. overlay l i ys) (p .is) ∙ (ap (λ n. overlay (overlay old at xs) n ys) (p .ends) ∙ overlay-append old at xs ys));
-    ends = omega (arith, p .ends, q .ends, length-append xs ys);
-  }
+  is = q .is ∙ (ap (λ l. overlay l i ys) (p .is) ∙ (ap (λ n. overlay (overlay old at xs) n ys) (p .ends) ∙ overlay-append old at xs ys));
+  ends = omega (arith, p .ends, q .ends, length-append xs ys);
+}
 
 pub laid-as : {old new xs : List ℕ} {at i : ℕ} (ys : List ℕ) → xs ≡ ys → Laid old at xs new i → Laid old at ys new i
 laid-as {old} {new} {xs} {at} {i} ys e p = record { is = p .is ∙ ap (overlay old at) e; ends = p .ends ∙ ap (λ l. at + length l) e }
@@ -70,15 +70,15 @@ left-more p q = record { is = q .is ∙ p .is; ends = q .ends ∙ p .ends }
 
 pub left-laid : {old new xs : List ℕ} {at i : ℕ} → Laid old at xs new i → (rest : List ℕ) → Left old at (xs ++ rest) new i rest
 left-laid {old} {new} {xs} {at} {i} p rest = record {
-    is = ap (λ l. overlay l i rest) (p .is) ∙ (ap (λ n. overlay (overlay old at xs) n rest) (p .ends) ∙ overlay-append old at xs rest);
-    ends = omega (arith, p .ends, length-append xs rest);
-  }
+  is = ap (λ l. overlay l i rest) (p .is) ∙ (ap (λ n. overlay (overlay old at xs) n rest) (p .ends) ∙ overlay-append old at xs rest);
+  ends = omega (arith, p .ends, length-append xs rest);
+}
 
 pub left-as : {old new xs rest : List ℕ} {at i : ℕ} (ys more : List ℕ) → xs ≡ ys → rest ≡ more → Left old at xs new i rest → Left old at ys new i more
 left-as {old} {new} {xs} {rest} {at} {i} ys more e f p = record {
-    is = sym (ap (overlay new i) f) ∙ (p .is ∙ ap (overlay old at) e);
-    ends = sym (ap (λ l. i + length l) f) ∙ (p .ends ∙ ap (λ l. at + length l) e);
-  }
+  is = sym (ap (overlay new i) f) ∙ (p .is ∙ ap (overlay old at) e);
+  ends = sym (ap (λ l. i + length l) f) ∙ (p .ends ∙ ap (λ l. at + length l) e);
+}
 
 pub left-all : {old new text : List ℕ} {at i : ℕ} → Left old at text new i [] → Laid old at text new i
 unfolding overlay

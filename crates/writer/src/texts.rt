@@ -1,3 +1,5 @@
 // A program's text, from its steps.
+mod heads;
+mod reached;
 mod room;
 mod steps;

@@ -91,14 +91,7 @@ fn put_along(room: &mut [u8], at: usize, before: &[u8], k: Binary, axis: u32) ->
     put_numbered(room, word, b" ", axis, b"(")
 }
 
-fn put_slice(
-    room: &mut [u8],
-    at: usize,
-    from: u32,
-    backward: bool,
-    by: u32,
-    many: u32,
-) -> usize
+fn put_slice(room: &mut [u8], at: usize, from: u32, backward: bool, by: u32, many: u32) -> usize
     requires fits { ⌜ at + 40 < 2 ^ 64 ⌝ }
     ensures laid { λ r. ⌜ Laid (now (room .entry)) at (decimal from ++ (codes ":" ++ pick backward (codes "-") []) ++ (decimal by ++ (codes ":" ++ decimal many ++ []))) (now (room .exit)) r ⌝ }
     ensures short { λ r. ⌜ r ≤ at + 40 ⌝ }
@@ -135,9 +128,7 @@ pub(crate) fn put_step(room: &mut [u8], at: usize, step: Step) -> usize
         Step::Join(x) => put_numbered(room, at, b"join ", x, b"("),
         Step::Rows => put_bytes(room, at, b"rows("),
         Step::Item(k) => put_number(room, at, k),
-        Step::Slice(from, backward, by, many) => {
-            put_slice(room, at, from, backward, by, many)
-        }
+        Step::Slice(from, backward, by, many) => { put_slice(room, at, from, backward, by, many) }
     }
 }
 

@@ -14,9 +14,9 @@ put-byte-requires t c κs = omega (arith, ap length (decimal-digit (c .args .n) 
 
 pub returns-then-n-lt10 : need.returns-then-n-lt10
 returns-then-n-lt10 t c = record {
-    laid = laid-as (decimal (c .args .n)) (sym (decimal-digit (c .args .n) (c .if-n-lt10 .taken))) (c .put-byte .ensures);
-    short = omega (arith, c .put-byte .ensures .ends);
-  }
+  laid = laid-as (decimal (c .args .n)) (sym (decimal-digit (c .args .n) (c .if-n-lt10 .taken))) (c .put-byte .ensures);
+  short = omega (arith, c .put-byte .ensures .ends);
+}
 
 pub put-number-front-requires : need.put-number-front-requires
 put-number-front-requires t c κs =
