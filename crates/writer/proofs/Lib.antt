@@ -1,3 +1,4 @@
 mod Overlays
 mod Names
 mod StepLengths
+mod Bracketed
