@@ -2,3 +2,6 @@ mod Overlays
 mod Names
 mod StepLengths
 mod Bracketed
+mod HeadViews
+mod Exprs
+mod LineViews

@@ -2,9 +2,12 @@
 use mathlib.Core.Path.{_≡_}
 use mathlib.Core.List.{List, [], _∷_, _++_}
 use Prim.Native.Nat.{ℕ, _+_, _*_, _<_, _≤_}
+use lib.Chars.{codes}
+use lib.Dec.{eqb}
 use lib.ListN.{length, drop}
 use Rattle.std.specs.declared.option.Option.{Option}
 use Rattle.std.specs.declared.option.Option.the-variants.{Some, None}
+use Rattle.semantics.specs.Shapes.{pick}
 use Rattle.semantics.specs.Values.{Expr, name, input, constant, count, each, both, choose, fold, scan, shape-to, turn, part, join, rows}
 use Rattle.semantics.specs.Programs.{Program, end, be, put, show, again}
 use Rattle.program.specs.declared.step.Step.{Step}
@@ -50,6 +53,10 @@ pub record Stand-all (ws : List ℕ) (node many : ℕ) : Type 0 where
   pub rest : List Step
   pub count : length exprs ≡ many
   pub enc : steps-from ws node ≡ spell-all exprs rest
+
+-- behind the first of several expressions: a comma, or a byte where it is the last
+abbrev pub gap-text : ℕ → ℕ → List ℕ
+gap-text many close = pick (eqb many 1) (close ∷ []) (codes ", ")
 
 -- expressions parted by `, `, with a byte behind the last
 unfoldable pub gap-onto : {A : Type 0} → List A → ℕ → List Letter → List Letter
@@ -100,6 +107,11 @@ unfoldable pub lines-onto : Program ℕ → List (Program ℕ) → List Letter
 unfolding write-lines spellings as-written open-onto
 lines-onto p ps = write-lines spellings (as-written p) (open-onto ps)
 
+pub record Lines-stand (ws : List ℕ) (node : ℕ) : Type 0 where
+  pub lines : Program ℕ
+  pub open-lines : List (Program ℕ)
+  pub enc : steps-from ws node ≡ spell-program lines (spell-open open-lines)
+
 -- what is still to be written of a text
 pub record To-write (text : List ℕ) (ws : List ℕ) (node : ℕ) (old : List ℕ) (at : ℕ) (new : List ℕ) (behind : ℕ) : Type 0 where
   pub lines : Program ℕ
@@ -119,6 +131,6 @@ pub record Is-program (ws : List ℕ) : Type 0 where
   pub steps : steps-in ws ≡ spell-program program []
 
 -- none, and nothing has changed, where the text is longer than the room; else the text, and behind it what was there
-abbrev pub Writes-program : List ℕ → Program ℕ → List ℕ → List ℕ → Option ℕ → Type 0
-Writes-program ws p old new None = (length old < length (text-of p)) × (new ≡ old)
-Writes-program ws p old new (Some n) = (n ≡ length (text-of p)) × (n ≤ length old) × (new ≡ text-of p ++ drop n old)
+abbrev pub Writes-program : Program ℕ → List ℕ → List ℕ → Option ℕ → Type 0
+Writes-program p old new None = (length old < length (text-of p)) × (new ≡ old)
+Writes-program p old new (Some n) = (n ≡ length (text-of p)) × (n ≤ length old) × (new ≡ text-of p ++ drop n old)

@@ -7,7 +7,7 @@ ghost use Rattle.std.specs.Written.{decimal};
 ghost use Rattle.writer.specs.Overlay.{Laid};
 ghost use Rattle.writer.specs.Spellings.{spellings};
 
-fn put_byte(room: &mut [u8], at: usize, byte: u8) -> usize
+pub(crate) fn put_byte(room: &mut [u8], at: usize, byte: u8) -> usize
     requires fits { ⌜ at + 1 < 2 ^ 64 ⌝ }
     ensures { λ r. ⌜ Laid (now (room .entry)) at (byte ∷ []) (now (room .exit)) r ⌝ }
 {
