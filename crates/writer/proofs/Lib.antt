@@ -5,3 +5,4 @@ mod Bracketed
 mod HeadViews
 mod Exprs
 mod LineViews
+mod ReadBack
