@@ -1,7 +1,10 @@
 // What is written for people: arrays as lines of text, and what the programs print.
 pub mod console;
 mod digits;
+pub mod laws;
 mod listing;
+mod texts;
 
 pub use digits::hex_digits;
 pub use listing::list_array;
+pub use texts::write_program;
