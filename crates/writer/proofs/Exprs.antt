@@ -1,7 +1,7 @@
 -- Expressions one after another: the head of the first, its operands, what comes behind it, and the others.
 use mathlib.Core.Path.{_≡_, refl, sym, ap, _∙_}
 use mathlib.Core.List.{List, [], _∷_, _++_}
-use Prim.Native.Nat.{ℕ, suc, _+_, _-_, _*_, _<_, _≤_}
+use Prim.Native.Nat.{ℕ, suc, _+_, _-_, _<_, _≤_}
 use native.Mathlib.Omega.{arith}
 use Rattle.std.proofs.shelf.Tests.{ne-eqb}
 use mathlib.Core.Bool.{false}
@@ -11,17 +11,13 @@ use lib.ListN.{length}
 use Rattle.semantics.specs.Shapes.{pick}
 use Rattle.semantics.specs.Values.{Expr}
 use Rattle.program.specs.declared.step.Step.{Step}
-use Rattle.program.specs.Spelling.{spell}
 use Rattle.program.specs.Words.{steps-in, At}
-use Rattle.program.specs.Standing.{steps-from, View}
+use Rattle.program.specs.Standing.{steps-from}
 use Rattle.program.proofs.Nodes.{expr-view, expr-there}
-use Rattle.grammar.specs.Letters.{Letter, plain, bytes}
-use Rattle.grammar.specs.Written.{write-expr}
-use Rattle.writer.specs.Overlay.{Laid, Left}
-use Rattle.writer.specs.Spellings.{spellings}
-use Rattle.writer.specs.WrittenAs.{written-expr}
-use Rattle.writer.specs.StepTexts.{wants, head-text}
-use Rattle.writer.specs.Writes.{Passed, Heads, spell-all, Stand-all, gap-text, gap-onto, exprs-onto, operands, Wrote, Writes}
+use Rattle.grammar.specs.Letters.{Letter, bytes}
+use Rattle.writer.specs.Overlay.{Laid}
+use Rattle.writer.specs.StepTexts.{wants}
+use Rattle.writer.specs.Writes.{Heads, spell-all, Stand-all, gap-text, gap-onto, exprs-onto, operands, Wrote, Writes}
 use Rattle.writer.proofs.Overlays.{left-start, left-more, left-laid, left-as}
 use Rattle.writer.proofs.HeadViews.{Head-view, head-view}
 

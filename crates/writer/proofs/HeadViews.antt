@@ -1,30 +1,28 @@
 -- The text of an expression and of a line by their first step.
 use mathlib.Core.Path.{_≡_, refl, sym, ap, _∙_}
-use mathlib.Core.Bool.{Bool, true, false}
+use mathlib.Core.Bool.{false}
 use mathlib.Core.List.{List, [], _∷_, _++_}
-use Prim.Native.Nat.{ℕ, zero, suc, _+_, _-_, _/_, _%_, _^_, _<_, _≤_}
+use Prim.Native.Nat.{ℕ, zero, suc, _+_, _-_, _/_, _%_, _^_}
 use native.Mathlib.Omega.{arith}
 use lib.Chars.{codes}
-use lib.Dec.{ltb}
 use lib.ListN.{length, getD}
 use Rattle.std.specs.Written.{decimal}
 use Rattle.std.proofs.shelf.Lists.{append-assoc, append-nil}
-use Rattle.std.proofs.shelf.Tests.{lt-ltb, le-ltb}
 use Rattle.semantics.specs.Shapes.{pick}
 use Rattle.semantics.specs.Parts.{Part}
 use Rattle.semantics.specs.Values.{Expr, name, input, constant, count, each, both, choose, fold, scan, shape-to, turn, part, join, rows}
-use Rattle.semantics.specs.Programs.{Program, end, be, put, show, again}
+use Rattle.semantics.specs.Programs.{show}
 use Rattle.program.specs.declared.step.Step.{Step}
-use Rattle.program.specs.declared.step.Step.the-variants.{End, Let, Put, Show, Again, Name, Input, Constant, Count, Each, Both, Choose, Fold, Scan, Shape, Turn, Part as Cut, Join, Rows, Item, Slice}
-use Rattle.program.specs.Spelling.{items, slices, spell, spell-program}
-use Rattle.program.specs.Standing.{View, is-name, is-input, is-constant, is-count, is-each, is-both, is-choose, is-fold, is-scan, is-shape, is-turn, is-part, is-join, is-rows, Lines-view, is-end, is-let, is-put, is-show, is-again}
-use Rattle.grammar.specs.Letters.{Flag, Letter, letter, plain, begins, bytes, plains, flagged}
+use Rattle.program.specs.declared.step.Step.the-variants.{Name, Input, Constant, Count, Each, Both, Choose, Fold, Scan, Shape, Turn, Part as Cut, Join, Rows, Slice}
+use Rattle.program.specs.Spelling.{items, slices, spell}
+use Rattle.program.specs.Standing.{View, is-name, is-input, is-constant, is-count, is-each, is-both, is-choose, is-fold, is-scan, is-shape, is-turn, is-part, is-join, is-rows}
+use Rattle.grammar.specs.Letters.{Flag, Letter, plain, begins, bytes, plains, flagged}
 use Rattle.grammar.specs.Words.{unary-word, binary-word}
-use Rattle.grammar.specs.Written.{hex-byte, write-hex, write-number, write-item, write-more-items, write-items, write-part, write-more-parts, write-parts, write-expr, write-lines}
+use Rattle.grammar.specs.Written.{hex-byte, write-hex, write-number, write-item, write-more-items, write-items, write-part, write-more-parts, write-parts, write-expr}
 use Rattle.writer.specs.Digits.{hex-digit, hex-last, hex16}
 use Rattle.writer.specs.Spellings.{spellings}
-use Rattle.writer.specs.StepTexts.{step-text, wants, closer, listed, more-text, list-text, behind-list, with-list, behind-closed, head-text, head-behind}
-use Rattle.writer.specs.WrittenAs.{digits-last, written-expr, as-written}
+use Rattle.writer.specs.StepTexts.{step-text, wants, listed, more-text, list-text, behind-list, with-list, behind-closed, head-text, head-behind}
+use Rattle.writer.specs.WrittenAs.{digits-last, written-expr}
 use Rattle.writer.specs.Writes.{spell-all, gap-onto, exprs-onto, operands}
 
 -- flags do not show

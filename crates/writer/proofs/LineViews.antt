@@ -1,29 +1,28 @@
 -- The text of lines by their first step, and what is left behind a line.
 use mathlib.Core.Path.{_≡_, refl, sym, ap, _∙_}
 use mathlib.Core.List.{List, [], _∷_, _++_}
-use Prim.Native.Nat.{ℕ, _+_, _*_, _<_, _≤_}
+use Prim.Native.Nat.{ℕ, _+_, _≤_}
 use native.Mathlib.Omega.{arith}
 use lib.Chars.{codes}
 use lib.ListN.{length, getD}
 use Rattle.std.specs.Written.{decimal}
 use Rattle.std.proofs.shelf.Lists.{append-assoc}
-use Rattle.semantics.specs.Parts.{Part}
 use Rattle.semantics.specs.Values.{Expr}
-use Rattle.semantics.specs.Programs.{Program, end, be, put, show, again}
+use Rattle.semantics.specs.Programs.{Program, end, be, put, again}
 use Rattle.program.specs.declared.step.Step.{Step}
-use Rattle.program.specs.declared.step.Step.the-variants.{End, Let, Put, Show, Again}
-use Rattle.program.specs.Spelling.{slices, spell, spell-program}
+use Rattle.program.specs.declared.step.Step.the-variants.{End}
+use Rattle.program.specs.Spelling.{spell-program}
 use Rattle.program.specs.Words.{steps-in, At}
 use Rattle.program.specs.Standing.{steps-from, Closed, nothing, closed, Lines-view, is-end, is-let, is-put, is-show, is-again}
 use Rattle.program.proofs.Views.{cons-rest, cons-nil, view-no-lines}
 use Rattle.program.proofs.Nodes.{lines-view, from-past, from-start}
-use Rattle.grammar.specs.Letters.{Letter, Flag, plain, begins, opens, closes, bytes, plains, flagged}
-use Rattle.grammar.specs.Written.{write-number, write-parts, write-expr, write-lines}
-use Rattle.writer.specs.Overlay.{Laid, Left}
+use Rattle.grammar.specs.Letters.{Letter, plain, begins, opens, bytes, plains, flagged}
+use Rattle.grammar.specs.Written.{write-number, write-parts, write-lines}
+use Rattle.writer.specs.Overlay.{Laid}
 use Rattle.writer.specs.Spellings.{spellings}
 use Rattle.writer.specs.StepTexts.{step-text, wants, list-text, behind-list, with-list, behind-closed, head-text, head-behind}
-use Rattle.writer.specs.WrittenAs.{written-expr, as-written, text-of}
-use Rattle.writer.specs.Writes.{Passed, Heads, spell-all, Stand-all, gap-onto, exprs-onto, Writes, spell-open, open-onto, lines-onto, Lines-stand, To-write, Writes-line}
+use Rattle.writer.specs.WrittenAs.{as-written, text-of}
+use Rattle.writer.specs.Writes.{Heads, spell-all, Stand-all, gap-onto, exprs-onto, Writes, spell-open, open-onto, lines-onto, Lines-stand, To-write, Writes-line}
 use Rattle.writer.proofs.Overlays.{left-start, left-more, left-laid, left-as, left-all}
 use Rattle.writer.proofs.HeadViews.{bytes-plains, bytes-flagged, bytes-number, all-parts, behind-parts}
 

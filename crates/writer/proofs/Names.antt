@@ -1,15 +1,14 @@
 -- The spellings of names: which there are, and that they are names.
-use mathlib.Core.Path.{_≡_, refl, sym, ap, subst, _∙_}
-use mathlib.Core.Bool.{Bool, true, false, _&&_, _||_, not}
+use mathlib.Core.Path.{_≡_, refl, ap, _∙_}
+use mathlib.Core.Bool.{true, false, _&&_, not}
 use mathlib.Core.List.{List, [], _∷_, map}
 use Prim.Native.Nat.{ℕ, zero, suc, _+_, _/_, _%_, _<_, _≤_}
 use native.Mathlib.Nat.{zero-add}
 use native.Mathlib.Omega.{arith}
-use lib.Dec.{ltb}
 use lib.ListN.{length, getD, take}
 use Rattle.std.specs.Iters.{counting}
-use Rattle.std.proofs.shelf.Lists.{getD-map, getD-past, length-map}
-use Rattle.std.proofs.shelf.Lanes.{length-counting, getD-counting}
+use Rattle.std.proofs.shelf.Lists.{getD-map, getD-past}
+use Rattle.std.proofs.shelf.Lanes.{getD-counting}
 use Rattle.std.proofs.shelf.Tests.{lt-ltb, le-ltb, or-parts, or-from, and-parts, and-from, not-true, not-from-false}
 use Rattle.semantics.specs.Shapes.{pick}
 use Rattle.grammar.specs.Words.{Word, same-word, is-some, itself, is-name, shaped, reserved, heads, head-word, kept-words, is-letter, is-digit, in-word, all-in-word, are-names, unary-word, binary-word}

@@ -5,7 +5,7 @@ use Prim.Native.Nat.{ℕ, _+_, _<_, _≤_}
 use native.Mathlib.Nat.{add-zero}
 use native.Mathlib.Omega.{arith}
 use lib.ListN.{length, set, take, drop, length-set}
-use Rattle.std.proofs.shelf.Lists.{append-assoc, append-nil, length-append, take-append-drop, take-more-set, drop-set-lt, set-past, drop-more, drop-all}
+use Rattle.std.proofs.shelf.Lists.{append-assoc, length-append, take-append-drop, take-more-set, drop-set-lt, set-past}
 use Rattle.writer.specs.Overlay.{overlay, Laid, Left}
 
 pub overlay-append : (r : List ℕ) (at : ℕ) (xs ys : List ℕ) → overlay (overlay r at xs) (at + length xs) ys ≡ overlay r at (xs ++ ys)

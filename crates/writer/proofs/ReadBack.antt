@@ -1,18 +1,15 @@
 -- The text of a program is a text of it: the digits of a constant are read as the constant.
 use mathlib.Core.Path.{_≡_, refl, sym, ap, _∙_}
 use mathlib.Core.Logic.{inl}
-use mathlib.Core.List.{List, [], _∷_}
-use Prim.Native.Nat.{ℕ, zero, suc, _+_, _*_, _/_, _%_, _^_, _<_, _≤_}
+use Prim.Native.Nat.{ℕ, zero, suc, _+_, _*_, _/_, _%_, _^_}
 use native.Mathlib.Nat.{div-div-eq-div-mul, pow-suc, div-one}
 use native.Mathlib.Omega.{arith}
 use lib.ListN.{length}
-use Rattle.semantics.specs.Values.{Expr, name, input, constant, count, each, both, choose, fold, scan, shape-to, turn, part, join, rows}
-use Rattle.semantics.specs.Programs.{Program, end, be, put, show, again}
-use Rattle.grammar.specs.Letters.{bytes}
+use Rattle.semantics.specs.Values.{Expr, constant, each, fold, scan, shape-to, turn, part}
+use Rattle.semantics.specs.Programs.{Program}
 use Rattle.grammar.specs.Constants.{canonical, hex-value, read-constant, read-expr, read-program}
-use Rattle.grammar.specs.Sayable.{Comes, Fits, fit-name, fit-input, fit-constant, fit-count, fit-each, fit-both, fit-choose, fit-fold, fit-scan, fit-shape, fit-turn, fit-part, fit-join, fit-rows, Fit-lines, fit-end, fit-be, fit-put, fit-show, fit-again, Digits, none, more, Sixteen, Canonical}
-use Rattle.grammar.specs.Written.{write-lines}
-use Rattle.grammar.specs.Texts.{Writing, letters, Reads}
+use Rattle.grammar.specs.Sayable.{Fits, fit-name, fit-input, fit-constant, fit-count, fit-each, fit-both, fit-choose, fit-fold, fit-scan, fit-shape, fit-turn, fit-part, fit-join, fit-rows, Fit-lines, fit-end, fit-be, fit-put, fit-show, fit-again, Digits, none, more, Sixteen, Canonical}
+use Rattle.grammar.specs.Texts.{letters}
 use Rattle.writer.specs.Spellings.{spellings}
 use Rattle.writer.specs.WrittenAs.{digits-last, written-expr, as-written, text-of, Text-reads}
 use Rattle.writer.proofs.Names.{all-are-names, spellings-many}

@@ -9,7 +9,7 @@ use Rattle.std.specs.declared.option.Option.{Option}
 use Rattle.std.specs.declared.option.Option.the-variants.{Some, None}
 use Rattle.semantics.specs.Shapes.{pick}
 use Rattle.semantics.specs.Values.{Expr, name, input, constant, count, each, both, choose, fold, scan, shape-to, turn, part, join, rows}
-use Rattle.semantics.specs.Programs.{Program, end, be, put, show, again}
+use Rattle.semantics.specs.Programs.{Program, end, be, again}
 use Rattle.program.specs.declared.step.Step.{Step}
 use Rattle.program.specs.declared.step.Step.the-variants.{End}
 use Rattle.program.specs.Spelling.{spell, spell-program}
@@ -20,7 +20,7 @@ use Rattle.grammar.specs.Written.{write-expr, write-lines}
 use Rattle.writer.specs.Overlay.{Laid, Left}
 use Rattle.writer.specs.Spellings.{spellings}
 use Rattle.writer.specs.WrittenAs.{written-expr, as-written, text-of}
-use Rattle.writer.specs.StepTexts.{list-text, behind-list, more-text, head-text, head-behind}
+use Rattle.writer.specs.StepTexts.{behind-list, head-text, head-behind}
 
 -- 64 bytes at most for each step that was passed
 pub record Passed (ws : List ℕ) (node at next behind : ℕ) : Type 0 where

@@ -1,4 +1,4 @@
-// What is written for people: arrays as lines of text, and what the programs print.
+// What is written for people: arrays as lines of text, programs as text, and what the programs print.
 pub mod console;
 mod digits;
 pub mod laws;

@@ -1,5 +1,4 @@
 // Steps with what stands between their brackets.
-ghost use mathlib.Core.Path.{_≡_};
 ghost use Prim.Native.Nat.{_*_, _+_, _<_, _≤_, _^_};
 ghost use lib.ListN.{length};
 ghost use Rattle.program.specs.Words.{steps-in};

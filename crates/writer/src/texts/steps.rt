@@ -7,7 +7,6 @@ ghost use lib.ListN.{length, getD};
 ghost use Rattle.std.specs.Written.{decimal};
 ghost use Rattle.semantics.specs.Shapes.{pick};
 ghost use Rattle.grammar.specs.Words.{unary-word, binary-word};
-ghost use Rattle.writer.specs.Digits.{hex16};
 ghost use Rattle.writer.specs.Overlay.{Laid};
 ghost use Rattle.writer.specs.Spellings.{spellings};
 ghost use Rattle.writer.specs.StepTexts.{step-text, wants, closer, listed};

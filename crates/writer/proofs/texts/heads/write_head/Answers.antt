@@ -1,12 +1,10 @@
-use mathlib.Core.Path.{sym, ap, _∙_}
-use mathlib.Core.List.{_++_}
-use Prim.Native.Nat.{_≤_, _<_}
-use mathlib.Core.Path.{_≡_}
+use mathlib.Core.Path.{_≡_, sym, ap, _∙_}
+use Prim.Native.Nat.{_<_}
 use native.Mathlib.Omega.{arith}
 use lib.ListN.{length}
 use Rattle.program.specs.Standing.{steps-from}
 use Rattle.program.proofs.Storing.{length-steps-in}
-use Rattle.writer.specs.StepTexts.{closer, step-text, list-text, with-list, behind-closed, head-text, head-behind}
+use Rattle.writer.specs.StepTexts.{closer, step-text, head-text, head-behind}
 use Rattle.writer.proofs.Overlays.{laid-more, laid-as}
 use Rattle.writer.proofs.Bracketed.{with-none, with-some, closed-none, closed-some, closer-short}
 use Rattle.writer.proofs.texts.heads.write_head.Needs as need

@@ -1,9 +1,7 @@
 use mathlib.Core.Path.{_≡_}
 use mathlib.Core.List.{[]}
-use Prim.Native.Nat.{_-_, _*_, _≤_}
-use lib.ListN.{length}
+use Prim.Native.Nat.{ℕ, _-_, _*_, _≤_}
 use Rattle.semantics.specs.Programs.{Program}
-use Prim.Native.Nat.{ℕ}
 use Rattle.program.specs.Spelling.{spell-program}
 use Rattle.program.specs.Words.{steps-in}
 use Rattle.writer.specs.WrittenAs.{text-of}

@@ -1,10 +1,9 @@
-use mathlib.Core.Path.{refl, sym, ap, _∙_}
-use mathlib.Core.List.{[], _∷_}
+use mathlib.Core.Path.{refl, sym}
+use mathlib.Core.List.{[]}
 use Prim.Native.Nat.{_+_, _<_, _≤_}
 use native.Mathlib.Omega.{arith}
-use lib.ListN.{length, drop, getD}
+use lib.ListN.{length, drop}
 use Rattle.std.proofs.shelf.Lists.{drop-more, drop-all, length-drop}
-use Rattle.writer.specs.Overlay.{Left}
 use Rattle.writer.proofs.Overlays.{left-start, left-more, left-laid, left-as, left-all}
 use Rattle.writer.proofs.texts.room.put_bytes.Needs as need
 

@@ -1,11 +1,10 @@
-use mathlib.Core.Path.{ap, _∙_}
+use mathlib.Core.Path.{ap}
 use mathlib.Core.Bool.{Bool, true, false}
 use mathlib.Core.List.{[], _++_}
 use Prim.Native.Nat.{_≤_}
 use native.Mathlib.Omega.{arith}
 use lib.Chars.{codes}
 use lib.ListN.{length}
-use Rattle.std.specs.Written.{decimal}
 use Rattle.semantics.specs.Shapes.{pick}
 use Rattle.writer.proofs.Overlays.{laid-more, laid-as}
 use Rattle.writer.proofs.StepLengths.{decimal-short}
