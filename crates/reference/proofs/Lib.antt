@@ -19,3 +19,4 @@ pub mod Evaluating
 pub mod Stating
 pub mod Lining
 pub mod Beginning
+pub mod Taken

@@ -12,3 +12,4 @@ pub mod Running
 pub mod Lines
 pub mod Interpreting
 pub mod PartsOf
+pub mod Answering

@@ -1,4 +1,6 @@
 // Why a program stops before its end.
+ghost use mathlib.Core.Path.{_≡_};
+ghost use Rattle.reference.specs.Faults.{fault-number};
 
 // What the language says is wrong, in the order of the faults' numbers.
 #[derive(Clone, Copy, PartialEq, Eq)]
@@ -22,4 +24,18 @@ pub enum Fault {
 pub enum Stop {
     Fault(Fault),
     Memory,
+}
+
+// The number of a fault.
+pub fn fault_number(fault: Fault) -> u32
+    ensures { λ r. ⌜ r ≡ fault-number fault ⌝ }
+{
+    match fault {
+        Fault::Shapes => 1,
+        Fault::Axes => 2,
+        Fault::Count => 3,
+        Fault::Range => 4,
+        Fault::Places => 5,
+        Fault::Nothing => 6,
+    }
 }

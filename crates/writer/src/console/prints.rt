@@ -17,10 +17,10 @@ pub fn print_shown(rt: &LibcRuntime, bytes: &[u8]) -> io::Result<()> {
     Ok(())
 }
 
-pub fn print_ended(rt: &LibcRuntime, fault: u8) -> io::Result<()> {
+pub fn print_ended(rt: &LibcRuntime, fault: u32) -> io::Result<()> {
     println!(rt, "ended {fault}")
 }
 
-pub fn print_refused(rt: &LibcRuntime, number: u8, place: usize) -> io::Result<()> {
+pub fn print_refused(rt: &LibcRuntime, number: u32, place: usize) -> io::Result<()> {
     println!(rt, "refused {number} at {place}")
 }
