@@ -11,3 +11,4 @@ mod AtEnd
 mod OnWay
 mod Ways
 mod Writing
+pub mod Taken

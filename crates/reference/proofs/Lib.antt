@@ -19,4 +19,3 @@ pub mod Evaluating
 pub mod Stating
 pub mod Lining
 pub mod Beginning
-pub mod Taken

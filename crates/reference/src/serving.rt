@@ -61,7 +61,12 @@ pub fn serve(rt: &LibcRuntime, usage: &str) -> Result<(), AnyError> {
     };
     let text = read_file(rt, options.program.as_str())?;
     let inputs = read_files(rt, &options.inputs)?;
-    match run_text(rt.alloc(), text.as_slice(), inputs.as_slice(), options.places) {
+    match run_text(
+        rt.alloc(),
+        text.as_slice(),
+        inputs.as_slice(),
+        options.places,
+    ) {
         Ok(outcome) => show(rt, &outcome, options.shown),
         Err(refused) => refuse(rt, refused),
     }

@@ -1,10 +1,10 @@
 // A text over its inputs: judged, then run. The text is judged before the inputs, and these before the places.
 ghost use Rattle.reference.specs.Answering.{Answers};
+use crate::interpret::Outcome;
+use crate::interpret::interpret;
 use crate::refused::Refused;
 use bytes::inputs::count_inputs;
 use reader::programs::read_program;
-use crate::interpret::Outcome;
-use crate::interpret::interpret;
 use std::alloc::Global;
 
 pub fn run_text(heap: Global, text: &[u8], inputs: &[u8], places: u64) -> Result<Outcome, Refused>

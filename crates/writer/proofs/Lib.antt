@@ -6,3 +6,4 @@ mod HeadViews
 mod Exprs
 mod LineViews
 mod ReadBack
+pub mod Canonicals

@@ -5,3 +5,4 @@ pub mod Spellings
 pub mod StepTexts
 pub mod WrittenAs
 pub mod Writes
+pub mod Rewriting

@@ -12,7 +12,7 @@ use Rattle.grammar.proofs.Accepts.{one-program}
 use Rattle.std.proofs.shelf.Lists.{length-replicate}
 use Rattle.reader.specs.Judging.{mark-places}
 use Rattle.reader.specs.Reading.{steps-said, result-of, Written}
-use Rattle.reference.proofs.Taken.{read-as, Read-as, few-steps}
+use Rattle.reader.proofs.Taken.{read-as, Read-as, few-steps}
 use Rattle.reference.proofs.texts.run_text.Needs as need
 
 pub mul-steps : need.mul-steps
