@@ -22,7 +22,7 @@ pub fn in_word(b: u8) -> bool
     is_letter(b) || is_digit(b)
 }
 
-// The value of a hexadecimal digit, or none where the byte is no such digit.
+// 0 to 9, a to f.
 pub fn is_hex(b: u8) -> bool
     ensures { λ r. ⌜ r ≡ is-hex b ⌝ }
 {
