@@ -1,17 +1,17 @@
 -- The end of a text: the newline that may be left out.
-use mathlib.Core.Path.{_≡_, refl, sym, ap, _∙_}
+use mathlib.Core.Path.{_≡_, refl, _∙_}
 use mathlib.Core.Bool.{Bool, true, false, _&&_}
 use mathlib.Core.List.{List, [], _∷_, _++_}
-use Prim.Native.Nat.{ℕ, zero, suc, _+_, _-_, _*_}
+use Prim.Native.Nat.{ℕ, zero, suc, _+_, _-_}
 use native.Mathlib.Omega.{arith}
-use lib.Dec.{leb, ltb, eqb}
+use lib.Dec.{eqb}
 use Rattle.std.proofs.shelf.Tests.{and-parts, false≢true}
 use Rattle.program.specs.declared.step.Step.{Step}
 use Rattle.grammar.specs.declared.symbol.Symbol.{Symbol}
 use Rattle.grammar.specs.Letters.{inside, begins}
-use Rattle.grammar.specs.Words.{Word, begins-some, binary-word, binaries, is-digit}
-use Rattle.grammar.specs.Moves.{Move, stop, move, push, when, viable, viable-name, moves}
-use Rattle.grammar.specs.Automaton.{State, stuck, at, top-move, moved, is-lines, between, steps-of}
+use Rattle.grammar.specs.Words.{Word, begins-some, binary-word, binaries}
+use Rattle.grammar.specs.Moves.{Move, move, push, when, viable, viable-name, moves}
+use Rattle.grammar.specs.Automaton.{at, top-move, moved, is-lines, between, steps-of}
 use Rattle.reader.specs.Judging.{is-newline, only-lines, line-ends}
 use Rattle.reader.proofs.Depths.{pendings}
 

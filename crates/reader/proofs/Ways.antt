@@ -1,10 +1,10 @@
 -- The ways of the loop over a text, and of its end.
 use mathlib.Core.Path.{_≡_, refl, sym, ap, subst, _∙_}
-use mathlib.Core.Bool.{Bool, true, false, _||_}
-use mathlib.Core.List.{List, [], _∷_, _++_, reverse}
-use Prim.Native.Nat.{ℕ, suc, _+_, _-_, _*_, _≤_, _<_, min}
+use mathlib.Core.Bool.{true, false}
+use mathlib.Core.List.{List, [], _++_, reverse}
+use Prim.Native.Nat.{ℕ, _+_, _-_, _≤_, _<_}
 use native.Mathlib.Omega.{arith}
-use lib.Dec.{ltb, eqb}
+use lib.Dec.{ltb}
 use lib.ListN.{length, getD, take, drop}
 use Rattle.std.specs.Vec.{listOf}
 use Rattle.std.specs.declared.option.Option.{Option}
@@ -14,9 +14,9 @@ use Rattle.std.proofs.shelf.Tests.{lt-ltb, le-ltb, or-left, or-right, or-from}
 use Rattle.semantics.specs.Shapes.{pick}
 use Rattle.program.specs.declared.step.Step.{Step}
 use Rattle.grammar.specs.declared.symbol.Symbol.{Symbol}
-use Rattle.grammar.specs.Letters.{Flag, Tally, tally-flag}
+use Rattle.grammar.specs.Letters.{Tally, tally-flag}
 use Rattle.grammar.specs.Words.{Word}
-use Rattle.grammar.specs.Automaton.{State, stuck, at, settle, top-move, moved, next, next-flag, between, steps-of, last, Answer, took, refused-7, refused-8, too-much-in, judge, answer-to}
+use Rattle.grammar.specs.Automaton.{State, stuck, at, settle, top-move, moved, next, next-flag, between, steps-of, last, took, refused-7, refused-8, too-much-in, judge, answer-to}
 use Rattle.reader.specs.declared.machine.Machine.{Machine}
 use Rattle.reader.specs.declared.turn.Mark.{Mark}
 use Rattle.reader.specs.declared.stepping.Advance.{Advance}
@@ -24,10 +24,10 @@ use Rattle.reader.specs.declared.stepping.Said.{Said}
 use Rattle.reader.specs.declared.judging.Count.{Count}
 use Rattle.reader.specs.declared.judging.Verdict.{Verdict}
 use Rattle.reader.specs.Turning.{flag-of}
-use Rattle.reader.specs.Machines.{state-of, Good, Advanced, Settled}
+use Rattle.reader.specs.Machines.{state-of, Advanced, Settled}
 use Rattle.reader.specs.Judging.{tally-of, only-lines, line-ends, place-of, place-at, places-from, mark-places, Reads-text}
-use Rattle.reader.proofs.Depths.{Sound, pendings, deep}
-use Rattle.reader.proofs.Keeping.{Well, Sound-state, sound-stuck, sound-at, sound-next, sound-settle}
+use Rattle.reader.proofs.Depths.{Sound, deep}
+use Rattle.reader.proofs.Keeping.{Sound-state, sound-at, sound-next, sound-settle}
 use Rattle.reader.proofs.Settling.{well-of}
 use Rattle.reader.proofs.AtEnd.{between-is, ends-between, ends-said, none-pending, none-pending-last}
 use Rattle.reader.proofs.OnWay.{state-with, On-way, judge-long, judge-stuck, judge-over, judge-on, places-on}

@@ -1,14 +1,14 @@
 -- Texts judged.
 use mathlib.Core.Path.{_≡_}
-use mathlib.Core.Bool.{Bool, true, false, _&&_}
+use mathlib.Core.Bool.{Bool, false, _&&_}
 use mathlib.Core.List.{List, [], _∷_, _++_, reverse}
-use Prim.Native.Nat.{ℕ, suc, _+_, _≤_, _<_}
+use Prim.Native.Nat.{ℕ, suc, _+_, _≤_}
 use lib.Dec.{eqb}
-use lib.ListN.{length, take, drop}
+use lib.ListN.{take}
 use Rattle.program.specs.declared.step.Step.{Step}
 use Rattle.grammar.specs.declared.symbol.Symbol.{Symbol}
 use Rattle.grammar.specs.Letters.{Flag, inside, begins, opens, closes, Tally}
-use Rattle.grammar.specs.Automaton.{State, start, next, next-flag, is-lines, Answer, took, refused-7, refused-8, answer-to}
+use Rattle.grammar.specs.Automaton.{State, start, next, next-flag, is-lines, took, refused-7, refused-8, answer-to}
 use Rattle.reader.specs.declared.turn.Mark.{Mark}
 use Rattle.reader.specs.declared.judging.Count.{Count}
 use Rattle.reader.specs.declared.judging.Verdict.{Verdict}

@@ -1,7 +1,7 @@
 // Bytes of a text.
 ghost use mathlib.Core.Path.{_≡_};
 ghost use Rattle.grammar.specs.Words.{is-digit, is-letter, in-word};
-ghost use Rattle.grammar.specs.Moves.{is-hex, hex-of};
+ghost use Rattle.grammar.specs.Moves.{is-hex};
 
 pub fn is_digit(b: u8) -> bool
     ensures { λ r. ⌜ r ≡ is-digit b ⌝ }

@@ -1,7 +1,5 @@
-use mathlib.Core.Path.{_≡_, refl, sym, ap, _∙_}
-use Prim.Native.Nat.{_≤_, _<_}
+use mathlib.Core.Path.{_∙_}
 use native.Mathlib.Omega.{arith}
-use lib.ListN.{length}
 use Rattle.reader.specs.Names.{spellings}
 use Rattle.reader.proofs.Spelled.{length-spellings, viable-unshaped, viable-room, viable-old}
 use Rattle.reader.proofs.names.is_viable_name.Needs as need

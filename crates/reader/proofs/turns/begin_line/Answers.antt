@@ -1,4 +1,4 @@
-use mathlib.Core.Path.{_≡_, refl, sym, ap, _∙_}
+use mathlib.Core.Path.{refl}
 use Rattle.reader.proofs.turns.begin_line.Needs as need
 
 pub returns : need.returns

@@ -1,6 +1,6 @@
-use mathlib.Core.Path.{_≡_, refl, sym, ap, _∙_}
+use mathlib.Core.Path.{sym, ap, _∙_}
 use mathlib.Core.List.{[], _∷_}
-use Rattle.grammar.specs.Letters.{inside, begins, opens, closes}
+use Rattle.grammar.specs.Letters.{begins, opens}
 use Rattle.program.specs.declared.step.Step.{Step}
 use Rattle.grammar.specs.Moves.{line-move}
 use Rattle.reader.proofs.Turnings.{move-by, no-line}
