@@ -1,21 +1,19 @@
 -- What holds of every state on the way: numbers below their limits, few names, a sound stack.
-use mathlib.Core.Path.{_≡_, refl, sym, ap, subst, _∙_}
 use mathlib.Core.Bool.{Bool, true, false}
 use mathlib.Core.List.{List, [], _∷_, _++_}
-use Prim.Native.Nat.{ℕ, suc, _+_, _*_, _≤_, _<_}
+use Prim.Native.Nat.{ℕ, _+_, _≤_}
 use native.Mathlib.Omega.{arith}
 use lib.ListN.{length}
 use Rattle.semantics.specs.Shapes.{pick}
 use Rattle.program.specs.declared.step.Step.{Step}
 use Rattle.grammar.specs.declared.symbol.Symbol.{Symbol}
-use Rattle.grammar.specs.Letters.{Flag, inside, Tally, tally-flag}
+use Rattle.grammar.specs.Letters.{inside, Tally, tally-flag}
 use Rattle.grammar.specs.Words.{Word}
 use Rattle.grammar.specs.Moves.{belongs, Ended, no, ended, ends, Move, stop, move, moves}
 use Rattle.grammar.specs.Automaton.{State, stuck, at, start, settled, settle, top-move, moved, next, move-flag, next-flag}
-use Rattle.reader.specs.Turning.{Fit}
-use Rattle.reader.specs.Machines.{Plain, Plains, none, more, Fits, empty, over}
+use Rattle.reader.specs.Machines.{Plains, none, more, Fits, empty, over}
 use Rattle.reader.proofs.Depths.{Sound, Tidy, weights, lights, pendings, sound-replace}
-use Rattle.reader.proofs.Legal.{plain-fits, Ready, gone, top, Legal-end, never, ending, ends-legal, Legal-move, stopped, goes, moves-legal}
+use Rattle.reader.proofs.Legal.{plain-fits, Ready, gone, top, Legal-end, ending, ends-legal, Legal-move, goes, moves-legal}
 
 pub data Well : State → Type 0 where
   well-stuck : Well stuck

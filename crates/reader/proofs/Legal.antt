@@ -1,8 +1,8 @@
 -- The table keeps stacks sound: what an ending or a move puts in a symbol's place may stand there.
-use mathlib.Core.Path.{_≡_, refl, sym, ap, _∙_}
+use mathlib.Core.Path.{_≡_, refl, ap, _∙_}
 use mathlib.Core.Bool.{Bool, true, false, _&&_, _||_}
 use mathlib.Core.List.{List, [], _∷_, _++_}
-use mathlib.Core.Logic.{_⊎_, inl, inr}
+use mathlib.Core.Logic.{inl, inr}
 use Prim.Native.Nat.{ℕ, zero, suc, _+_, _-_, _*_, _^_, _≤_, _<_}
 use native.Mathlib.Omega.{arith}
 use native.Mathlib.Nat.{pow-suc}
@@ -12,7 +12,7 @@ use lib.Chars.{codes}
 use Rattle.std.specs.declared.option.Option.{Option}
 use Rattle.std.specs.declared.option.Option.the-variants.{Some, None}
 use Rattle.std.proofs.shelf.Lists.{length-push}
-use Rattle.std.proofs.shelf.Tests.{and-parts, and-from, or-cases, ltb-true, false≢true}
+use Rattle.std.proofs.shelf.Tests.{and-parts, ltb-true, false≢true}
 use Rattle.semantics.specs.Shapes.{pick}
 use Rattle.semantics.specs.declared.operation.Binary.{Binary as Two}
 use Rattle.program.specs.declared.step.Step.{Step}
@@ -22,10 +22,9 @@ use Rattle.grammar.specs.declared.symbol.Head.{Head}
 use Rattle.grammar.specs.declared.symbol.Along.{Along}
 use Rattle.grammar.specs.declared.symbol.Target.{Target}
 use Rattle.grammar.specs.declared.symbol.Bracket.{Bracket}
-use Rattle.grammar.specs.Letters.{Flag, inside, begins, opens, closes}
+use Rattle.grammar.specs.Letters.{Flag, inside, begins, closes}
 use Rattle.grammar.specs.Words.{Word, find, begins-some, is-some, itself, is-name, head-word, heads, binary-word, binaries, is-digit}
-use Rattle.grammar.specs.Constants.{canonical}
-use Rattle.grammar.specs.Moves.{place, with-name, can-name, viable, viable-name, spelled, operands, bracket, head-step, head-rest, target-step, target-rest, along-step, number-step, number-rest, Ended, no, ended, name-ends, word-ends, binary-ends, ends, Move, stop, move, push, when, line-move, digit-move, item-number, is-hex, hex-of, hex-move, operands-move, moves}
+use Rattle.grammar.specs.Moves.{place, with-name, can-name, viable, viable-name, spelled, operands, head-step, head-rest, target-step, target-rest, number-step, number-rest, Ended, no, ended, name-ends, word-ends, binary-ends, ends, Move, stop, move, push, when, line-move, digit-move, item-number, is-hex, hex-of, hex-move, operands-move, moves}
 use Rattle.reader.specs.Turning.{Fit}
 use Rattle.reader.specs.Machines.{Plain, Plains, none, more}
 use Rattle.reader.proofs.Turnings.{digit-low, hex-low, hex-of-low, hex-of-high}

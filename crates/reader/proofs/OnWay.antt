@@ -1,36 +1,22 @@
 -- What holds between two bytes of a text that is read.
-use mathlib.Core.Path.{_≡_, refl, sym, ap, subst, _∙_}
-use mathlib.Core.Bool.{Bool, true, false, _||_}
+use mathlib.Core.Path.{_≡_, sym, ap, subst, _∙_}
+use mathlib.Core.Bool.{true, false}
 use mathlib.Core.List.{List, [], _∷_, _++_, reverse}
-use Prim.Native.Nat.{ℕ, suc, _+_, _-_, _*_, _≤_, _<_, min}
+use Prim.Native.Nat.{ℕ, suc, _+_, _-_, _≤_, _<_}
 use native.Mathlib.Omega.{arith}
 use native.Mathlib.Numerals.{add-one}
-use lib.Dec.{ltb, eqb}
 use lib.ListN.{length, getD, take, drop}
-use Rattle.std.specs.Vec.{listOf}
-use Rattle.std.specs.declared.option.Option.{Option}
-use Rattle.std.specs.declared.option.Option.the-variants.{Some, None}
-use Rattle.std.proofs.shelf.Lists.{at-drop-more, at-drop-all, length-reverse, length-take-le, length-append, length-drop, reverse-append, append-assoc, append-nil}
-use Rattle.std.proofs.shelf.Tests.{eq-eqb, ne-eqb, lt-ltb, le-ltb, or-left, or-right, or-from}
+use Rattle.std.proofs.shelf.Lists.{at-drop-more}
+use Rattle.std.proofs.shelf.Tests.{eq-eqb, ne-eqb}
 use Rattle.semantics.specs.Shapes.{pick}
 use Rattle.program.specs.declared.step.Step.{Step}
-use Rattle.grammar.specs.declared.symbol.Symbol.{Symbol}
-use Rattle.grammar.specs.Letters.{Flag, Tally, tally-flag}
-use Rattle.grammar.specs.Words.{Word}
-use Rattle.grammar.specs.Automaton.{State, stuck, at, start, settle, top-move, moved, next, next-flag, between, is-stuck, steps-of, last, Answer, took, refused-7, refused-8, too-much-in, judge, answer-to}
+use Rattle.grammar.specs.Letters.{Tally, tally-flag}
+use Rattle.grammar.specs.Automaton.{State, stuck, start, next, next-flag, is-stuck, refused-7, refused-8, too-much-in, judge, answer-to}
 use Rattle.reader.specs.declared.machine.Machine.{Machine}
-use Rattle.reader.specs.declared.turn.Mark.{Mark}
-use Rattle.reader.specs.declared.stepping.Advance.{Advance}
-use Rattle.reader.specs.declared.stepping.Said.{Said}
 use Rattle.reader.specs.declared.judging.Count.{Count}
-use Rattle.reader.specs.declared.judging.Verdict.{Verdict}
-use Rattle.reader.specs.Turning.{flag-of}
-use Rattle.reader.specs.Machines.{state-of, Good, Advanced, Settled}
-use Rattle.reader.specs.Judging.{tally-of, only-lines, line-ends, place-of, place-at, places-from, mark-places, Reads-text}
-use Rattle.reader.proofs.Depths.{Sound, pendings, deep}
-use Rattle.reader.proofs.Keeping.{Well, Sound-state, sound-stuck, sound-at, well-next, sound-next, sound-settle, sound-start}
-use Rattle.reader.proofs.Settling.{well-of}
-use Rattle.reader.proofs.AtEnd.{between-is, ends-between, ends-said, none-pending, none-pending-last}
+use Rattle.reader.specs.Machines.{state-of, Good}
+use Rattle.reader.specs.Judging.{tally-of, place-at, places-from, mark-places}
+use Rattle.reader.proofs.Keeping.{Sound-state, sound-start}
 
 -- the state with these steps said
 abbrev pub state-with : List ℕ → ℕ → Machine → ℕ → List Step → State

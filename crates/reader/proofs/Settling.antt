@@ -2,35 +2,34 @@
 use mathlib.Core.Path.{_≡_, refl, sym, ap, subst, _∙_}
 use mathlib.Core.Bool.{Bool, true, false}
 use mathlib.Core.List.{List, [], _∷_, _++_}
-use Prim.Native.Nat.{ℕ, suc, _+_, _-_, _*_, _≤_, _<_, min}
+use Prim.Native.Nat.{ℕ, _+_, _-_, _≤_, _<_}
 use native.Mathlib.Omega.{arith}
 use lib.ListN.{length, getD, take, drop}
 use Rattle.std.specs.Vec.{listOf}
 use Rattle.std.specs.declared.option.Option.{Option}
-use Rattle.std.specs.declared.option.Option.the-variants.{Some, None}
-use Rattle.std.proofs.shelf.Lists.{drop-all, drop-more, length-take, length-take-le, length-push, map-push, append-nil}
+use Rattle.std.specs.declared.option.Option.the-variants.{None}
+use Rattle.std.proofs.shelf.Lists.{drop-all, drop-more, length-take, length-take-le, length-push, map-push}
 use Rattle.semantics.specs.Shapes.{pick}
 use Rattle.program.specs.declared.step.Step.{Step}
 use Rattle.grammar.specs.declared.symbol.Symbol.{Symbol}
-use Rattle.grammar.specs.Letters.{Flag}
 use Rattle.grammar.specs.Words.{Word}
-use Rattle.grammar.specs.Moves.{belongs, Ended, no, ended, ends, Move, stop, move, moves}
-use Rattle.grammar.specs.Automaton.{State, stuck, at, settled, settle, top-move, moved, move-flag}
+use Rattle.grammar.specs.Moves.{belongs, no, ended, ends, stop, moves}
+use Rattle.grammar.specs.Automaton.{stuck, at, settled, settle, top-move, moved, next, move-flag, next-flag}
 use Rattle.reader.specs.declared.names.Span.{Span}
 use Rattle.reader.specs.declared.machine.Machine.{Machine}
+use Rattle.reader.specs.declared.stepping.Said.{Said}
+use Rattle.reader.specs.declared.stepping.Advance.{Advance}
 use Rattle.reader.specs.declared.pushes.Pushes.{Pushes}
 use Rattle.reader.specs.declared.turn.Ending.{Ending}
 use Rattle.reader.specs.declared.turn.Turn.{Turn}
 use Rattle.reader.specs.Pushed.{symbols-of}
 use Rattle.reader.specs.Names.{part, spelling, spellings}
 use Rattle.reader.specs.Turning.{ended-as, ended-of, move-as, move-of, flag-of, word-from, Fit}
-use Rattle.reader.specs.Machines.{state-of, Good, Fits, empty, over, Replaced, Settled, Turned}
-use Rattle.reader.specs.declared.stepping.Said.{Said}
-use Rattle.reader.specs.declared.stepping.Advance.{Advance}
+use Rattle.reader.specs.Machines.{state-of, Good, Fits, over, Replaced, Settled, Turned, Advanced}
 use Rattle.reader.proofs.Turnings.{part-none}
 use Rattle.reader.proofs.Spelled.{length-spellings}
-use Rattle.reader.proofs.Legal.{Legal-end, never, ending, ends-legal}
-use Rattle.reader.proofs.Keeping.{Well, well, well-stuck, well-settle, well-moved}
+use Rattle.reader.proofs.Legal.{Legal-end, ending, ends-legal}
+use Rattle.reader.proofs.Keeping.{Well, well, well-settle, well-moved}
 
 -- the names so far
 abbrev pub names-of : List ℕ → Machine → List Word
@@ -218,4 +217,14 @@ turned-new t i m new x good there k names count down word begun value =
             room = omega arith;
             fits = fits-back t (i + 1) new (listOf (x .step) ++ []) (subst Well (is []) (well-moved (state-of t i m []) (getD t i 0) (well-of t i 8 m [] good)));
           };
+    }
+
+-- one byte: what ended before it, and then the byte
+pub advanced-both : (t : List ℕ) (i : ℕ) (m mid new : Machine) (s : Said) (x : Advance) → Settled t i (getD t i 0) m mid s → Turned t i mid new x → Advanced t i m new (record { before = s .step; step = x .step; mark = x .mark })
+unfolding next next-flag
+advanced-both t i m mid new s x first second =
+    record {
+      is = λ out. ap (λ q. moved (top-move q (getD t i 0)) q) (first .is out) ∙ second .is (listOf (s .step) ++ out);
+      flag = λ out. ap (λ q. move-flag (top-move q (getD t i 0))) (first .is out) ∙ second .flag (listOf (s .step) ++ out);
+      good = second .good;
     }

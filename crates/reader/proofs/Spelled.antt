@@ -1,15 +1,13 @@
 -- Names, looked for one after the other.
 use mathlib.Core.Path.{_≡_, refl, sym, ap, _∙_}
-use mathlib.Core.Bool.{Bool, true, false, _&&_, _||_, not}
+use mathlib.Core.Bool.{Bool, true, false, _&&_, _||_}
 use mathlib.Core.Logic.{_⊎_, inl, inr}
 use mathlib.Core.List.{List, [], _∷_, _++_}
-use Prim.Native.Nat.{ℕ, suc, _+_, _-_, _≤_, _<_, min}
+use Prim.Native.Nat.{ℕ, suc, _+_, _-_, _≤_, _<_}
 use native.Mathlib.Omega.{arith}
-use native.Mathlib.Numerals.{add-one}
 use lib.Dec.{ltb}
 use lib.ListN.{length, getD, take, drop}
 use lib.Seq.{take-nil}
-use Rattle.std.specs.declared.option.Option.{Option}
 use Rattle.std.specs.declared.option.Option.the-variants.{Some, None}
 use Rattle.std.proofs.shelf.Lists.{at-drop-more, at-drop-all, take-all, drop-all, length-map, length-drop, getD-map}
 use Rattle.std.proofs.shelf.Tests.{le-ltb, lt-ltb, or-right, false≢true}
@@ -17,8 +15,7 @@ use Rattle.semantics.specs.Shapes.{pick}
 use Rattle.grammar.specs.Words.{Word, same-word, is-some, begins-some, itself, is-name, shaped, head-word, heads}
 use Rattle.grammar.specs.Moves.{place, with-name, can-name, viable-name, viable}
 use Rattle.reader.specs.declared.names.Span.{Span}
-use Rattle.reader.specs.declared.names.Naming.{Naming}
-use Rattle.reader.specs.Names.{part, spelling, spellings, Sought, absent, present, Names-as, Named, unnamed, named}
+use Rattle.reader.specs.Names.{part, spelling, spellings, Sought, absent, present, Named, unnamed, named}
 
 -- bounds past the text's end give the same part
 pub part-within : (t : List ℕ) (a b c d : ℕ) → ((b ≡ d) × (d < length t)) ⊎ ((b ≡ length t) × (length t ≤ d)) → ((a ≡ c) × (c < b)) ⊎ ((a ≡ b) × (b ≤ c)) → part t a b ≡ part t c d

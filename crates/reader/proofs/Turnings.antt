@@ -1,14 +1,12 @@
 -- Endings and turns that the code makes are those of the table.
-use mathlib.Core.Path.{_≡_, refl, sym, ap, _∙_}
+use mathlib.Core.Path.{_≡_, sym, ap, _∙_}
 use mathlib.Core.Logic.{_⊎_, inl, inr}
-use mathlib.Core.Bool.{Bool, true, false, _&&_, _||_}
+use mathlib.Core.Bool.{true, false, _&&_}
 use mathlib.Core.List.{List, [], _∷_, _++_}
 use Prim.Native.Nat.{ℕ, zero, suc, _+_, _-_, _*_, _^_, _≤_, _<_}
 use native.Mathlib.Omega.{arith}
 use lib.Dec.{leb, ltb, eqb, lit<}
 use lib.ListN.{length, getD, take, drop}
-use Rattle.std.specs.Vec.{listOf}
-use Rattle.std.specs.declared.option.Option.{Option}
 use Rattle.std.specs.declared.option.Option.the-variants.{Some, None}
 use Rattle.std.proofs.shelf.Lists.{length-drop, take-more, getD-drop}
 use Rattle.std.proofs.shelf.Tests.{ne-eqb, leb-true, le-leb, lt-leb, lt-ltb, le-ltb, and-parts, and-from, and-left, and-right, or-cases}
@@ -20,12 +18,11 @@ use Rattle.grammar.specs.declared.symbol.Number.{Number}
 use Rattle.grammar.specs.Letters.{Flag, inside}
 use Rattle.grammar.specs.Words.{Word, is-digit}
 use Rattle.grammar.specs.Constants.{canonical}
-use Rattle.grammar.specs.Moves.{place, with-name, can-name, name-ends, Ended, no, ended, Move, stop, move, when, push, is-hex, hex-of, hex-move, line-move, operands-move, moves}
+use Rattle.grammar.specs.Moves.{place, with-name, name-ends, no, ended, Move, stop, move, when, push, is-hex, hex-of, hex-move, line-move, operands-move, moves}
 use Rattle.reader.specs.declared.names.Naming.{Naming}
 use Rattle.reader.specs.declared.pushes.Pushes.{Pushes}
 use Rattle.reader.specs.Pushed.{symbols-of}
 use Rattle.reader.specs.Names.{part, Names-as, Named, unnamed, named}
-use Rattle.reader.specs.Turning.{ended-of}
 
 -- equal parts make equal endings
 pub ended-by : {es fs : List Step} {s t : List Symbol} (ns : List Word) → es ≡ fs → s ≡ t → ended ns es s ≡ ended ns fs t

@@ -1,12 +1,10 @@
 -- Steps stored one after the other, and what reading a text answers.
-use mathlib.Core.Path.{_≡_, refl, sym, ap, subst, _∙_}
+use mathlib.Core.Path.{_≡_, sym, ap, _∙_}
 use mathlib.Core.Bool.{Bool, true, false}
 use mathlib.Core.List.{List, [], _∷_, _++_, reverse}
-use Prim.Native.Nat.{ℕ, suc, _+_, _-_, _*_, _/_, _≤_, _<_}
+use Prim.Native.Nat.{ℕ, _+_, _-_, _*_, _/_, _≤_, _<_}
 use native.Mathlib.Omega.{arith}
-use lib.Dec.{ltb}
-use lib.ListN.{length, getD, set, take, drop}
-use Rattle.std.specs.declared.result.Result.{Result}
+use lib.ListN.{length, getD, take, drop}
 use Rattle.std.specs.declared.result.Result.the-variants.{Ok, Err}
 use Rattle.std.proofs.shelf.Lists.{length-take-le, length-reverse, reverse-reverse, take-more, take-more-set, getD-take, ext-getD, drop-drop}
 use Rattle.std.proofs.shelf.Tests.{lt-ltb, le-ltb}
@@ -14,11 +12,11 @@ use Rattle.semantics.specs.Shapes.{pick}
 use Rattle.program.specs.declared.step.Step.{Step}
 use Rattle.program.specs.Words.{step-of, step-in, place-in, steps-in, places-in, Stored, Stores}
 use Rattle.program.proofs.Storing.{length-steps-in, length-places-in, steps-in-at, places-in-at}
-use Rattle.grammar.specs.Automaton.{Answer, took, refused-7, refused-8, answer-to}
+use Rattle.grammar.specs.Automaton.{refused-7, refused-8, answer-to}
 use Rattle.reader.specs.declared.judging.Verdict.{Verdict}
 use Rattle.reader.specs.declared.refusal.Refusal.{Refusal}
 use Rattle.reader.specs.Judging.{Reads-text, mark-places}
-use Rattle.reader.specs.Reading.{verdict-of, steps-said, result-of, Written, Leaves}
+use Rattle.reader.specs.Reading.{verdict-of, steps-said, result-of, Written}
 
 -- the steps of the first words are the first steps
 module _ (ws : List ℕ) (n : ℕ) (fits : 5 * n ≤ length ws) where

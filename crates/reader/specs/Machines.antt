@@ -1,17 +1,14 @@
 -- The automaton's state that a machine stands for.
 use mathlib.Core.Path.{_≡_}
-use mathlib.Core.Bool.{Bool, true, false}
 use mathlib.Core.List.{List, [], _∷_, _++_}
-use Prim.Native.Nat.{ℕ, _+_, _≤_, _<_}
+use Prim.Native.Nat.{ℕ, _+_, _≤_}
 use lib.ListN.{length, getD, take, drop}
 use Rattle.std.specs.Vec.{listOf}
 use Rattle.std.specs.declared.option.Option.{Option}
 use Rattle.std.specs.declared.option.Option.the-variants.{Some, None}
-use Rattle.semantics.specs.Shapes.{pick}
 use Rattle.program.specs.declared.step.Step.{Step}
 use Rattle.grammar.specs.declared.symbol.Symbol.{Symbol}
 use Rattle.grammar.specs.Automaton.{State, stuck, at, settle, top-move, moved, move-flag, next, next-flag}
-use Rattle.reader.specs.declared.names.Span.{Span}
 use Rattle.reader.specs.declared.machine.Machine.{Machine}
 use Rattle.reader.specs.declared.stepping.Said.{Said}
 use Rattle.reader.specs.declared.stepping.Advance.{Advance}

@@ -1,6 +1,4 @@
 -- What the code's values say in the automaton's words.
-use mathlib.Core.Path.{_≡_}
-use mathlib.Core.Bool.{Bool, true, false}
 use mathlib.Core.List.{List, [], _∷_, _++_}
 use Prim.Native.Nat.{ℕ, _-_, _^_, _≤_, _<_}
 use Rattle.std.specs.Vec.{listOf}

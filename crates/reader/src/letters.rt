@@ -1,7 +1,7 @@
 // Bytes of a text.
 ghost use mathlib.Core.Path.{_≡_};
 ghost use Rattle.grammar.specs.Words.{is-digit, is-letter, in-word};
-ghost use Rattle.grammar.specs.Moves.{is-hex, hex-of};
+ghost use Rattle.grammar.specs.Moves.{is-hex};
 
 pub fn is_digit(b: u8) -> bool
     ensures { λ r. ⌜ r ≡ is-digit b ⌝ }
@@ -22,7 +22,7 @@ pub fn in_word(b: u8) -> bool
     is_letter(b) || is_digit(b)
 }
 
-// The value of a hexadecimal digit, or none where the byte is no such digit.
+// 0 to 9, a to f.
 pub fn is_hex(b: u8) -> bool
     ensures { λ r. ⌜ r ≡ is-hex b ⌝ }
 {

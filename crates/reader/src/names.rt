@@ -11,6 +11,9 @@ use crate::words::is_name;
 use crate::words::is_shaped;
 use crate::words::same_word;
 
+// How many names a text may have.
+const MOST_NAMES: usize = 64;
+
 #[derive(Clone, Copy)]
 pub struct Span {
     pub from: usize,
@@ -67,7 +70,7 @@ pub fn is_viable_name(text: &[u8], names: &[Span], word: &[u8]) -> bool
     if !is_shaped(word) {
         return false;
     }
-    if names.len() < 64 {
+    if names.len() < MOST_NAMES {
         return true;
     }
     begins_name(text, names, word)
@@ -98,7 +101,7 @@ pub fn name_of(text: &[u8], names: &[Span], word: &[u8]) -> Option<Naming>
         });
     }
     let count = names.len();
-    if count >= 64 {
+    if count >= MOST_NAMES {
         return None;
     }
     Some(Naming {

@@ -3,13 +3,14 @@ ghost use mathlib.Core.Path.{_≡_};
 ghost use mathlib.Core.Bool.{true, false};
 ghost use mathlib.Core.List.{List, [], _∷_};
 ghost use Prim.Native.Nat.{ℕ, _+_, _*_, _-_, _≤_, _<_};
-ghost use lib.Dec.{eqb};
+ghost use lib.Chars.{codes};
 ghost use lib.ListN.{length, getD};
+ghost use Rattle.std.specs.Vec.{listOf};
 ghost use Rattle.grammar.specs.declared.symbol.Symbol.{Symbol};
 ghost use Rattle.grammar.specs.declared.symbol.Number.{Number};
 ghost use Rattle.grammar.specs.Words.{Word, is-digit};
 ghost use Rattle.grammar.specs.Constants.{canonical};
-ghost use Rattle.grammar.specs.Moves.{Move, move, when, push, is-hex, hex-of, line-move, operands-move, moves};
+ghost use Rattle.grammar.specs.Moves.{spelled, Move, move, when, push, is-hex, hex-of, line-move, operands-move, moves};
 ghost use Rattle.reader.specs.Names.{part, spellings};
 ghost use Rattle.reader.specs.Pushed.{symbols-of};
 ghost use Rattle.reader.specs.Turning.{flag-of, move-or, move-of, Fit};
@@ -53,76 +54,79 @@ fn push_when(ok: bool, pushes: Pushes) -> Option<Turn>
     })
 }
 
+// A statement begins.
+fn begin_line(mark: Mark, step: Option<Step>, pushes: Pushes) -> Option<Turn>
+    ensures { λ r. ⌜ ((t : List ℕ) (e : ℕ) (other : Move) → move-or t e other r ≡ move (flag-of mark) (listOf step) (symbols-of pushes) [] 0) ⌝ }
+{
+    Some(Turn {
+        mark,
+        step,
+        pushes,
+        word: None,
+        value: 0,
+    })
+}
+
+// Behind the first byte of `let` or `put`.
+fn target_line(second: u8, target: Target, here: Symbol) -> Pushes
+    ensures { λ r. ⌜ symbols-of r ≡ Symbol.Byte second ∷ Symbol.Byte 116 ∷ Symbol.Byte 32 ∷ Symbol.Target target ∷ Symbol.Byte 10 ∷ here ∷ [] ⌝ }
+{
+    six(
+        Symbol::Byte(second),
+        Symbol::Byte(b't'),
+        Symbol::Byte(b' '),
+        Symbol::Target(target),
+        Symbol::Byte(b'\n'),
+        here,
+    )
+}
+
+// Behind the first byte of `show`.
+fn show_line(here: Symbol) -> Pushes
+    ensures { λ r. ⌜ symbols-of r ≡ spelled (codes "how ") (Symbol.Expr ∷ Symbol.Byte 10 ∷ here ∷ []) ⌝ }
+{
+    seven(
+        Symbol::Byte(b'h'),
+        Symbol::Byte(b'o'),
+        Symbol::Byte(b'w'),
+        Symbol::Byte(b' '),
+        Symbol::Expr,
+        Symbol::Byte(b'\n'),
+        here,
+    )
+}
+
+// Behind the first byte of `again`.
+fn again_line(here: Symbol) -> Pushes
+    ensures { λ r. ⌜ symbols-of r ≡ spelled (codes "gain ") (Symbol.Number Number.Again ∷ Symbol.Byte 10 ∷ here ∷ []) ⌝ }
+{
+    eight(
+        Symbol::Byte(b'g'),
+        Symbol::Byte(b'a'),
+        Symbol::Byte(b'i'),
+        Symbol::Byte(b'n'),
+        Symbol::Byte(b' '),
+        Symbol::Number(Number::Again),
+        Symbol::Byte(b'\n'),
+        here,
+    )
+}
+
 // The first byte of a statement.
 fn line_turn(here: Symbol, b: u8) -> Option<Turn>
     ensures { λ r. ⌜ ((t : List ℕ) (e : ℕ) (other : Move) → move-or t e other r ≡ line-move here other b) ⌝ }
 {
     if b == b'l' {
-        return Some(Turn {
-            mark: Mark::Begins,
-            step: None,
-            pushes: six(
-                Symbol::Byte(b'e'),
-                Symbol::Byte(b't'),
-                Symbol::Byte(b' '),
-                Symbol::Target(Target::Let),
-                Symbol::Byte(b'\n'),
-                here,
-            ),
-            word: None,
-            value: 0,
-        });
+        return begin_line(Mark::Begins, None, target_line(b'e', Target::Let, here));
     }
     if b == b'p' {
-        return Some(Turn {
-            mark: Mark::Begins,
-            step: None,
-            pushes: six(
-                Symbol::Byte(b'u'),
-                Symbol::Byte(b't'),
-                Symbol::Byte(b' '),
-                Symbol::Target(Target::Put),
-                Symbol::Byte(b'\n'),
-                here,
-            ),
-            word: None,
-            value: 0,
-        });
+        return begin_line(Mark::Begins, None, target_line(b'u', Target::Put, here));
     }
     if b == b's' {
-        return Some(Turn {
-            mark: Mark::Begins,
-            step: Some(Step::Show),
-            pushes: seven(
-                Symbol::Byte(b'h'),
-                Symbol::Byte(b'o'),
-                Symbol::Byte(b'w'),
-                Symbol::Byte(b' '),
-                Symbol::Expr,
-                Symbol::Byte(b'\n'),
-                here,
-            ),
-            word: None,
-            value: 0,
-        });
+        return begin_line(Mark::Begins, Some(Step::Show), show_line(here));
     }
     if b == b'a' {
-        return Some(Turn {
-            mark: Mark::Opens,
-            step: None,
-            pushes: eight(
-                Symbol::Byte(b'g'),
-                Symbol::Byte(b'a'),
-                Symbol::Byte(b'i'),
-                Symbol::Byte(b'n'),
-                Symbol::Byte(b' '),
-                Symbol::Number(Number::Again),
-                Symbol::Byte(b'\n'),
-                here,
-            ),
-            word: None,
-            value: 0,
-        });
+        return begin_line(Mark::Opens, None, again_line(here));
     }
     None
 }

@@ -1,4 +1,4 @@
-use mathlib.Core.Path.{_≡_, refl, sym, ap, _∙_}
+use mathlib.Core.Path.{refl, ap, _∙_}
 use Rattle.grammar.specs.Moves.{binary-ends}
 use Rattle.reader.proofs.Turnings.{ended-by}
 use Rattle.reader.proofs.endings.end_binary.Needs as need

@@ -1,7 +1,6 @@
-use mathlib.Core.Path.{_≡_, refl, sym, ap, _∙_}
+use mathlib.Core.Path.{sym, ap, _∙_}
 use Rattle.reader.specs.Names.{spellings}
 use Rattle.grammar.specs.Moves.{ends}
-use Rattle.reader.specs.Turning.{Fit}
 use Rattle.reader.proofs.endings.end_symbol.Needs as need
 
 pub returns-in-Lines : need.returns-in-Lines

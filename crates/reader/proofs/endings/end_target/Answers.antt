@@ -1,4 +1,3 @@
-use mathlib.Core.Path.{_≡_, refl, sym, ap, _∙_}
 use Rattle.reader.specs.Names.{spellings}
 use Rattle.grammar.specs.Moves.{target-step, target-rest}
 use Rattle.reader.proofs.Turnings.{ended-unnamed, ended-named}

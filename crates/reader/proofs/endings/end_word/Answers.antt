@@ -1,4 +1,4 @@
-use mathlib.Core.Path.{_≡_, refl, sym, ap, _∙_}
+use mathlib.Core.Path.{ap, _∙_}
 use Rattle.reader.specs.Names.{spellings}
 use Rattle.grammar.specs.Moves.{word-ends}
 use Rattle.reader.proofs.Turnings.{ended-by}

@@ -1,4 +1,4 @@
-use mathlib.Core.Path.{_≡_, refl, sym, ap, _∙_}
+use mathlib.Core.Path.{sym, ap}
 use Rattle.grammar.specs.Moves.{head-step}
 use Rattle.reader.proofs.follows.head_step.Needs as need
 

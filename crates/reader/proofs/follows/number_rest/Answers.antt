@@ -1,4 +1,4 @@
-use mathlib.Core.Path.{_≡_, refl, sym, ap, _∙_}
+use mathlib.Core.Path.{sym, ap, _∙_}
 use Rattle.grammar.specs.Moves.{number-rest}
 use Rattle.reader.proofs.follows.number_rest.Needs as need
 

@@ -1,11 +1,10 @@
 use mathlib.Core.Path.{_≡_, refl, sym, ap, _∙_}
 use mathlib.Core.List.{[]}
-use Prim.Native.Nat.{suc, _+_, _≤_, _<_}
+use Prim.Native.Nat.{_≤_, _<_}
 use native.Mathlib.Omega.{arith}
-use lib.ListN.{length, getD, drop}
-use Rattle.grammar.specs.Words.{same-word, begins-word, itself}
-use Rattle.grammar.specs.Moves.{place}
-use Rattle.reader.specs.Names.{spelling, spellings, Sought, absent, present}
+use lib.ListN.{length, getD}
+use Rattle.grammar.specs.Words.{same-word, itself}
+use Rattle.reader.specs.Names.{spelling, spellings, absent, present}
 use Rattle.reader.proofs.Sought.{some-here, some-on, some-none}
 use Rattle.reader.proofs.Spelled.{length-spellings, spelling-at, place-here, place-on, place-none}
 use Rattle.reader.proofs.names.find_name.Needs as need

@@ -1,7 +1,4 @@
-use mathlib.Core.Path.{_≡_, refl, sym, ap, _∙_}
-use Prim.Native.Nat.{_≤_, _<_}
-use native.Mathlib.Omega.{arith}
-use lib.ListN.{length}
+use mathlib.Core.Path.{_∙_}
 use Rattle.reader.specs.Names.{spellings}
 use Rattle.reader.proofs.Spelled.{viable-head, viable-other}
 use Rattle.reader.proofs.names.is_viable.Needs as need

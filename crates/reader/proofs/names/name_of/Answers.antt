@@ -1,5 +1,4 @@
-use mathlib.Core.Path.{_≡_, refl, sym, ap, _∙_}
-use Prim.Native.Nat.{_≤_, _<_}
+use mathlib.Core.Path.{sym}
 use native.Mathlib.Omega.{arith}
 use lib.ListN.{length}
 use Rattle.reader.specs.Names.{spellings}
@@ -15,8 +14,8 @@ returns-then-not-is-name c = no-name (spellings (c .args .text .now) (c .args .n
 pub returns-in-Some : need.returns-in-Some
 returns-in-Some c = old-name (spellings (c .args .text .now) (c .args .names .now)) (c .args .word .now) (c .in-Some .k) (sym (c .if-not-is-name .ensures tt)) (c .in-Some .ensures tt)
 
-pub returns-then-count-ge64 : need.returns-then-count-ge64
-returns-then-count-ge64 c = no-room (spellings (c .args .text .now) (c .args .names .now)) (c .args .word .now) (sym (c .if-not-is-name .ensures tt)) (c .in-rest .ensures tt) (omega (arith, length-spellings (c .args .text .now) (c .args .names .now)))
+pub returns-then-count-ge-MOST-NAMES : need.returns-then-count-ge-MOST-NAMES
+returns-then-count-ge-MOST-NAMES c = no-room (spellings (c .args .text .now) (c .args .names .now)) (c .args .word .now) (sym (c .if-not-is-name .ensures tt)) (c .in-rest .ensures tt) (omega (arith, length-spellings (c .args .text .now) (c .args .names .now)))
 
 pub returns : need.returns
 returns c = new-name (spellings (c .args .text .now) (c .args .names .now)) (c .args .word .now) (length (c .args .names .now)) (sym (length-spellings (c .args .text .now) (c .args .names .now))) (sym (c .if-not-is-name .ensures tt)) (c .in-rest .ensures tt) (omega arith)

@@ -1,6 +1,4 @@
-use mathlib.Core.Path.{_≡_, refl, sym, ap, _∙_}
 use mathlib.Core.Logic.{inl, inr}
-use native.Mathlib.Omega.{arith}
 use Rattle.reader.proofs.Spelled.{part-within}
 use Rattle.reader.proofs.names.part_of.Needs.{then-to-len, else-to-len, then-from-end, else-from-end}
 use Rattle.reader.proofs.names.part_of.Needs as need

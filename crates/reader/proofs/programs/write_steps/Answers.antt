@@ -1,4 +1,4 @@
-use mathlib.Core.Path.{_≡_, refl, sym, ap, subst, _∙_}
+use mathlib.Core.Path.{refl}
 use native.Mathlib.Omega.{arith}
 use Rattle.reader.proofs.Writing.{stores-more, all-stored}
 use Rattle.reader.proofs.programs.write_steps.Needs as need

@@ -1,11 +1,10 @@
-use mathlib.Core.Path.{_≡_, refl, sym, ap, _∙_}
+use mathlib.Core.Path.{sym, ap, _∙_}
 use mathlib.Core.List.{[], _∷_}
-use Rattle.grammar.specs.Letters.{inside, begins, opens, closes}
+use Rattle.grammar.specs.Letters.{closes}
 use Rattle.program.specs.declared.step.Step.{Step}
-use Rattle.grammar.specs.declared.symbol.Symbol.{Symbol}
 use lib.Dec.{eqb}
 use lib.Chars.{codes}
-use Rattle.grammar.specs.Moves.{moves, when, spelled, move, line-move}
+use Rattle.grammar.specs.Moves.{moves, when, spelled, move}
 use Rattle.std.proofs.shelf.Tests.{ne-eqb}
 use Rattle.reader.proofs.Turnings.{move-by}
 use Rattle.reader.proofs.turns.body_turn.Needs as need

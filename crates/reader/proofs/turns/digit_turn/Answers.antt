@@ -1,9 +1,7 @@
-use mathlib.Core.Path.{_≡_, refl, sym, ap, _∙_}
-use mathlib.Core.List.{[], _∷_}
-use Prim.Native.Nat.{_+_, _-_, _*_, _≤_, _<_}
-use native.Mathlib.Omega.{arith}
+use mathlib.Core.Path.{sym, ap}
+use mathlib.Core.List.{[]}
+use Prim.Native.Nat.{_-_}
 use Rattle.grammar.specs.Moves.{when, move}
-use Rattle.grammar.specs.Words.{is-digit}
 use Rattle.reader.specs.Turning.{flag-of}
 use Rattle.reader.specs.Pushed.{symbols-of}
 use Rattle.reader.proofs.Turnings.{digit-low}

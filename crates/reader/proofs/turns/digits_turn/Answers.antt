@@ -1,7 +1,7 @@
-use mathlib.Core.Path.{_≡_, refl, sym, ap, _∙_}
-use mathlib.Core.List.{[], _∷_}
-use Rattle.grammar.specs.Letters.{inside, begins, opens, closes}
-use Prim.Native.Nat.{_+_, _-_, _*_, _≤_, _<_}
+use mathlib.Core.Path.{sym, _∙_}
+use mathlib.Core.List.{[]}
+use Rattle.grammar.specs.Letters.{inside}
+use Prim.Native.Nat.{_+_, _-_, _*_}
 use native.Mathlib.Omega.{arith}
 use Rattle.reader.proofs.Turnings.{move-by, digit-low, digits-other, digits-zero, digits-large, digits-more}
 use Rattle.reader.proofs.turns.digits_turn.Needs as need

@@ -1,10 +1,10 @@
-use mathlib.Core.Path.{_≡_, refl, sym, ap, _∙_}
+use mathlib.Core.Path.{ap, _∙_}
 use mathlib.Core.List.{[], _∷_}
-use Rattle.grammar.specs.Letters.{inside, begins, opens, closes}
-use Prim.Native.Nat.{_+_, _-_, _*_, _≤_, _<_}
+use Rattle.grammar.specs.Letters.{inside}
+use Prim.Native.Nat.{_+_, _-_, _*_}
 use native.Mathlib.Omega.{arith}
 use Rattle.grammar.specs.declared.symbol.Symbol.{Symbol}
-use Rattle.grammar.specs.Moves.{move, hex-of}
+use Rattle.grammar.specs.Moves.{move}
 use Rattle.grammar.specs.Constants.{canonical}
 use Rattle.reader.proofs.Turnings.{move-by, hex-room, hex-other, hex-none, hex-last, hex-more}
 use Rattle.reader.proofs.turns.hex_turn.Needs as need

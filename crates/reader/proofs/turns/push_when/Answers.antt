@@ -1,4 +1,4 @@
-use mathlib.Core.Path.{_≡_, refl, sym, ap, _∙_}
+use mathlib.Core.Path.{sym, ap}
 use Rattle.grammar.specs.Moves.{when, push}
 use Rattle.reader.specs.Pushed.{symbols-of}
 use Rattle.reader.proofs.turns.push_when.Needs as need

@@ -1,9 +1,8 @@
-use mathlib.Core.Path.{_≡_, refl, sym, ap, _∙_}
+use mathlib.Core.Path.{sym, ap, _∙_}
 use mathlib.Core.List.{[], _∷_}
-use Rattle.grammar.specs.Letters.{inside, begins, opens, closes}
+use Rattle.grammar.specs.Letters.{inside}
 use Rattle.grammar.specs.declared.symbol.Symbol.{Symbol}
-use Prim.Native.Nat.{_+_, _-_, _*_, _≤_, _<_}
-use lib.Dec.{eqb}
+use Prim.Native.Nat.{_-_}
 use mathlib.Core.Bool.{true, false}
 use Rattle.semantics.specs.Shapes.{pick}
 use Rattle.grammar.specs.declared.symbol.Number.{Number}

@@ -1,4 +1,4 @@
-use mathlib.Core.Path.{_≡_, refl, sym, ap, _∙_}
+use mathlib.Core.Path.{sym, ap}
 use Rattle.semantics.specs.Shapes.{pick}
 use Prim.Native.Nat.{_%_}
 use Rattle.grammar.specs.Constants.{canonical}

@@ -1,6 +1,6 @@
-use mathlib.Core.Path.{_≡_, refl, sym, ap, _∙_}
+use mathlib.Core.Path.{sym, ap, _∙_}
 use mathlib.Core.List.{[], _∷_, _++_}
-use Rattle.grammar.specs.Letters.{inside, begins, opens, closes}
+use Rattle.grammar.specs.Letters.{inside, begins}
 use Rattle.grammar.specs.declared.symbol.Symbol.{Symbol}
 use Prim.Native.Nat.{_+_, _-_}
 use lib.Dec.{eqb}

@@ -1,7 +1,7 @@
-use mathlib.Core.Path.{_≡_, refl, sym, ap, _∙_}
+use mathlib.Core.Path.{_≡_, sym, ap, _∙_}
 use mathlib.Core.Bool.{_&&_}
-use Prim.Native.Nat.{_+_, _<_}
-use lib.ListN.{length, getD, drop}
+use Prim.Native.Nat.{_+_}
+use lib.ListN.{getD, drop}
 use Rattle.std.proofs.shelf.Lists.{at-drop-more, at-drop-all}
 use Rattle.grammar.specs.Words.{in-word, all-in-word}
 use Rattle.reader.proofs.words.all_in_word.Needs as need

@@ -1,9 +1,9 @@
 use Rattle.semantics.specs.declared.operation.Binary.the-variants.{Add}
-use mathlib.Core.Path.{_≡_, refl, sym, ap, _∙_}
+use mathlib.Core.Path.{sym, ap, _∙_}
 use Prim.Native.Nat.{_<_}
 use native.Mathlib.Omega.{arith}
 use lib.ListN.{length}
-use Rattle.grammar.specs.Words.{begins-some, begins-word, binaries, binary-word}
+use Rattle.grammar.specs.Words.{begins-word, binaries, binary-word}
 use Rattle.reader.specs.Tables.{all-binaries, binary-at}
 use Rattle.reader.proofs.Sought.{begins-here, begins-on, begins-none}
 use Rattle.reader.proofs.words.begins_binary.Needs as need

@@ -1,9 +1,9 @@
 use Rattle.grammar.specs.declared.symbol.Head.the-variants.{In}
-use mathlib.Core.Path.{_≡_, refl, sym, ap, _∙_}
+use mathlib.Core.Path.{sym, ap, _∙_}
 use Prim.Native.Nat.{_<_}
 use native.Mathlib.Omega.{arith}
 use lib.ListN.{length}
-use Rattle.grammar.specs.Words.{begins-some, begins-word, head-word, heads}
+use Rattle.grammar.specs.Words.{begins-word, head-word, heads}
 use Rattle.reader.specs.Tables.{all-heads, head-at}
 use Rattle.reader.proofs.Sought.{begins-here, begins-on, begins-none}
 use Rattle.reader.proofs.words.begins_head.Needs as need

@@ -1,4 +1,4 @@
-use mathlib.Core.Path.{_≡_, refl, sym, ap, _∙_}
+use mathlib.Core.Path.{sym, ap}
 use Rattle.grammar.specs.Words.{binary-word}
 use Rattle.reader.proofs.words.binary_word.Needs as need
 

@@ -1,11 +1,11 @@
 use Rattle.std.specs.declared.option.Option.the-variants.{Some}
 use Rattle.semantics.specs.declared.operation.Binary.the-variants.{Add}
-use mathlib.Core.Path.{_≡_, refl, sym, ap, _∙_}
+use mathlib.Core.Path.{sym, ap, _∙_}
 use Prim.Native.Nat.{_<_}
 use native.Mathlib.Omega.{arith}
 use lib.ListN.{length}
-use Rattle.grammar.specs.Words.{binaries, binary-word, find, same-word}
-use Rattle.reader.specs.Tables.{all-binaries, binary-at}
+use Rattle.grammar.specs.Words.{binaries, binary-word, same-word}
+use Rattle.reader.specs.Tables.{all-binaries}
 use Rattle.reader.proofs.Sought.{find-here, find-on, find-none}
 use Rattle.reader.proofs.words.find_binary.Needs as need
 

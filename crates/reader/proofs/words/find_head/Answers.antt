@@ -1,11 +1,11 @@
 use Rattle.std.specs.declared.option.Option.the-variants.{Some}
 use Rattle.grammar.specs.declared.symbol.Head.the-variants.{In}
-use mathlib.Core.Path.{_≡_, refl, sym, ap, _∙_}
+use mathlib.Core.Path.{sym, ap, _∙_}
 use Prim.Native.Nat.{_<_}
 use native.Mathlib.Omega.{arith}
 use lib.ListN.{length}
-use Rattle.grammar.specs.Words.{find, head-word, heads, same-word}
-use Rattle.reader.specs.Tables.{all-heads, head-at}
+use Rattle.grammar.specs.Words.{head-word, heads, same-word}
+use Rattle.reader.specs.Tables.{all-heads}
 use Rattle.reader.proofs.Sought.{find-here, find-on, find-none}
 use Rattle.reader.proofs.words.find_head.Needs as need
 

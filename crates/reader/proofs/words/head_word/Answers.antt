@@ -1,4 +1,4 @@
-use mathlib.Core.Path.{_≡_, refl, sym, ap, _∙_}
+use mathlib.Core.Path.{sym, ap, _∙_}
 use Rattle.grammar.specs.Words.{head-word}
 use Rattle.reader.proofs.words.head_word.Needs as need
 

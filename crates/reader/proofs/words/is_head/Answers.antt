@@ -1,9 +1,9 @@
 use Rattle.grammar.specs.declared.symbol.Head.the-variants.{In}
-use mathlib.Core.Path.{_≡_, refl, sym, ap, _∙_}
+use mathlib.Core.Path.{sym, ap, _∙_}
 use Prim.Native.Nat.{_<_}
 use native.Mathlib.Omega.{arith}
 use lib.ListN.{length}
-use Rattle.grammar.specs.Words.{head-word, heads, is-some, same-word}
+use Rattle.grammar.specs.Words.{head-word, heads, same-word}
 use Rattle.reader.specs.Tables.{all-heads, head-at}
 use Rattle.reader.proofs.Sought.{some-here, some-on, some-none}
 use Rattle.reader.proofs.words.is_head.Needs as need

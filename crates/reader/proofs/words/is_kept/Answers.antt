@@ -1,9 +1,9 @@
 use mathlib.Core.List.{[]}
-use mathlib.Core.Path.{_≡_, refl, sym, ap, _∙_}
+use mathlib.Core.Path.{sym, ap, _∙_}
 use Prim.Native.Nat.{_<_}
 use native.Mathlib.Omega.{arith}
 use lib.ListN.{length}
-use Rattle.grammar.specs.Words.{is-some, itself, kept-words, same-word}
+use Rattle.grammar.specs.Words.{itself, kept-words, same-word}
 use Rattle.reader.specs.Tables.{all-kept, kept-at}
 use Rattle.reader.proofs.Sought.{some-here, some-on, some-none}
 use Rattle.reader.proofs.words.is_kept.Needs as need

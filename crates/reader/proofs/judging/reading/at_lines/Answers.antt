@@ -1,4 +1,4 @@
-use mathlib.Core.Path.{_≡_, refl, sym, ap, subst, _∙_}
+use mathlib.Core.Path.{_∙_}
 use Rattle.reader.proofs.Lines.{no-lines-past, no-lines-more, lines-last}
 use Rattle.reader.proofs.judging.reading.at_lines.Needs as need
 

@@ -1,4 +1,4 @@
-use mathlib.Core.Path.{_≡_, refl, sym, ap, subst, _∙_}
+use mathlib.Core.Path.{refl, sym, ap, _∙_}
 use native.Mathlib.Numerals.{add-one}
 use Rattle.grammar.specs.Letters.{tally-flag}
 use Rattle.reader.specs.Judging.{tally-of}

@@ -1,6 +1,5 @@
-use mathlib.Core.Path.{_≡_, refl, sym, ap, subst, _∙_}
-use mathlib.Core.List.{List, [], _∷_}
-use Prim.Native.Nat.{ℕ}
+use mathlib.Core.Path.{_≡_, sym, ap, subst}
+use mathlib.Core.List.{[], _∷_}
 use native.Mathlib.Omega.{arith}
 use lib.ListN.{drop, replicate}
 use Rattle.std.proofs.shelf.Lists.{length-replicate, drop-replicate}
@@ -8,7 +7,7 @@ use Rattle.grammar.specs.declared.symbol.Symbol.{Symbol}
 use Rattle.grammar.specs.Automaton.{at, start}
 use Rattle.reader.specs.declared.names.Span.{Span}
 use Rattle.reader.specs.Names.{spellings}
-use Rattle.reader.specs.Machines.{state-of, Plains, none, Fits, over}
+use Rattle.reader.specs.Machines.{state-of, none, Fits, over}
 use Rattle.reader.proofs.judging.reading.fresh_machine.Needs as need
 
 pub returns : need.returns

@@ -1,4 +1,4 @@
-use mathlib.Core.Path.{_≡_, refl, sym, ap, subst, _∙_}
+use mathlib.Core.Path.{sym, ap}
 use Rattle.grammar.specs.Automaton.{is-lines}
 use Rattle.reader.proofs.judging.reading.is_lines.Needs as need
 

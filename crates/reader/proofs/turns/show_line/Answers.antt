@@ -1,0 +1,6 @@
+use Rattle.grammar.specs.Moves.{spelled}
+use Rattle.reader.proofs.turns.show_line.Needs as need
+
+pub returns : need.returns
+unfolding spelled
+returns c = c .seven .ensures
