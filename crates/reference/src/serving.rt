@@ -8,6 +8,7 @@ use bytes::inputs::whole_end;
 use reader::refusal::refusal_number;
 use reader::refusal::refusal_place;
 use std::error::AnyError;
+use writer::console::explain_refused;
 use writer::console::print_ended;
 use writer::console::print_refused;
 use writer::console::print_shown;
@@ -15,10 +16,12 @@ use writer::console::read_file;
 use writer::console::read_files;
 use writer::console::read_options;
 
-fn refuse(rt: &LibcRuntime, refused: Refused) -> Result<(), AnyError> {
+fn refuse(rt: &LibcRuntime, text: &[u8], refused: Refused) -> Result<(), AnyError> {
     match refused {
         Refused::Text(refusal) => {
-            print_refused(rt, refusal_number(refusal), refusal_place(refusal))?;
+            let place = refusal_place(refusal);
+            print_refused(rt, refusal_number(refusal), place)?;
+            explain_refused(rt, text, place)?;
             Err("the text is no program that can be run".into())
         }
         Refused::Input(k) => {
@@ -68,6 +71,6 @@ pub fn serve(rt: &LibcRuntime, usage: &str) -> Result<(), AnyError> {
         options.places,
     ) {
         Ok(outcome) => show(rt, &outcome, options.shown),
-        Err(refused) => refuse(rt, refused),
+        Err(refused) => refuse(rt, text.as_slice(), refused),
     }
 }
