@@ -2,7 +2,7 @@
 .PHONY: run test
 
 run:
-	rt check engine
+	rt check engine meaning rewrite
 	target/bin/engine --input examples/glacier.arrays examples/glacier.txt
 
 test:
