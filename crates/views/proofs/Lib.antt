@@ -1,0 +1,5 @@
+pub mod Integers
+pub mod Walks
+pub mod Casts
+pub mod Seeing
+pub mod Rows

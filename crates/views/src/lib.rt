@@ -1,0 +1,5 @@
+// Views: an array that looks at numbers that lie somewhere already, by a shape, strides and a start.
+pub mod place;
+pub mod strides;
+pub mod view;
+pub mod whole;
