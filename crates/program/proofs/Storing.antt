@@ -9,7 +9,7 @@ use native.Mathlib.Omega.{arith}
 use borrow.Rule.Slice.PartMut.{putMid}
 use lib.ListN.{length, getD, set, take, drop, length-set, length-append, length-drop}
 use Rattle.std.proofs.shelf.Counted.{length-map-counting, getD-map-counting}
-use Rattle.std.proofs.shelf.Lists.{getD-take, getD-drop, getD-set-same, getD-set-other, getD-append-add, getD-append-left, ext-getD, take-at, drop-at, take-all, append-assoc, length-take-le}
+use Rattle.std.proofs.shelf.Lists.{getD-take, getD-drop, getD-set-same, getD-set-other, getD-append-add, getD-append-left, ext-getD, take-at, drop-at, take-all, append-assoc, length-take-le, take-more-set, take-set-le}
 use Rattle.std.proofs.shelf.Parts.{putMid-paste}
 use Rattle.std.proofs.shelf.Tests.{cases-eq, cases-order}
 use Rattle.program.specs.declared.step.Step.{Step}
@@ -246,3 +246,56 @@ stored-by old new ws node width s p e wide there is =
       before = below old new ws node five there so;
       behind = above old new ws node five there so;
     }
+
+-- steps stored one after another: one more, as many as before
+module _ (old new : List ℕ) (node : ℕ) (s : Step) (p : ℕ) (st : Stored old new node s p) where
+  pub stored-length : length (steps-in new) ≡ length (steps-in old)
+  stored-length = ap length (st .steps) ∙ length-set (steps-in old) node s
+
+  pub stored-more : take (node + 1) (steps-in new) ≡ take node (steps-in old) ++ s ∷ []
+  stored-more = ap (take (node + 1)) (st .steps) ∙ take-more-set (steps-in old) node s (st .there)
+
+  pub stored-places-more : take (node + 1) (places-in new) ≡ take node (places-in old) ++ p ∷ []
+  stored-places-more =
+      ap (take (node + 1)) (st .places) ∙ take-more-set (places-in old) node p (omega (arith, st .there, length-steps-in old, length-places-in old))
+
+  -- those before stay
+  pub stored-before : (n : ℕ) → n ≤ node → take n (steps-in new) ≡ take n (steps-in old)
+  stored-before n h = ap (take n) (st .steps) ∙ take-set-le n (steps-in old) node s h
+
+  pub stored-places-before : (n : ℕ) → n ≤ node → take n (places-in new) ≡ take n (places-in old)
+  stored-places-before n h = ap (take n) (st .places) ∙ take-set-le n (places-in old) node p h
+
+-- the words of the first n steps are those steps
+module _ (ws : List ℕ) (n : ℕ) (there : 5 * n ≤ length ws) where
+  front-length : length (take (5 * n) ws) ≡ 5 * n
+  front-length = length-take-le (5 * n) ws there
+
+  step-in-take : (k : ℕ) → k < n → step-in (take (5 * n) ws) k ≡ step-in ws k
+  unfolding step-in
+  step-in-take k h =
+      step-of-same (getD-take (5 * n) ws (5 * k) 0 (omega arith)) (getD-take (5 * n) ws (5 * k + 2) 0 (omega arith)) (getD-take (5 * n) ws (5 * k + 3) 0 (omega arith)) (getD-take (5 * n) ws (5 * k + 4) 0 (omega arith))
+
+  place-in-take : (k : ℕ) → k < n → place-in (take (5 * n) ws) k ≡ place-in ws k
+  unfolding place-in
+  place-in-take k h = getD-take (5 * n) ws (5 * k + 1) 0 (omega arith)
+
+  pub steps-in-take : steps-in (take (5 * n) ws) ≡ take n (steps-in ws)
+  steps-in-take =
+      ext-getD End (steps-in (take (5 * n) ws)) (take n (steps-in ws))
+      (omega (arith, front-length, length-steps-in (take (5 * n) ws), length-steps-in ws, length-take-le n (steps-in ws) (omega (arith, length-steps-in ws))))
+      (λ k h.
+        let low : k < n = omega (arith, front-length, length-steps-in (take (5 * n) ws)) in
+        let in-front : k < length (take (5 * n) ws) / 5 = omega (arith, front-length) in
+        let in-all : k < length ws / 5 = omega arith in
+        steps-in-at (take (5 * n) ws) k in-front ∙ (step-in-take k low ∙ (sym (steps-in-at ws k in-all) ∙ sym (getD-take n (steps-in ws) k End low))))
+
+  pub places-in-take : places-in (take (5 * n) ws) ≡ take n (places-in ws)
+  places-in-take =
+      ext-getD 0 (places-in (take (5 * n) ws)) (take n (places-in ws))
+      (omega (arith, front-length, length-places-in (take (5 * n) ws), length-places-in ws, length-take-le n (places-in ws) (omega (arith, length-places-in ws))))
+      (λ k h.
+        let low : k < n = omega (arith, front-length, length-places-in (take (5 * n) ws)) in
+        let in-front : k < length (take (5 * n) ws) / 5 = omega (arith, front-length) in
+        let in-all : k < length ws / 5 = omega arith in
+        places-in-at (take (5 * n) ws) k in-front ∙ (place-in-take k low ∙ (sym (places-in-at ws k in-all) ∙ sym (getD-take n (places-in ws) k 0 low))))

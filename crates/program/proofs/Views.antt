@@ -1,8 +1,11 @@
 -- Expressions, lists of items and lines by their first step.
 use mathlib.Core.Path.{_≡_, refl, sym, ap, subst, _∙_}
+use mathlib.Core.Bool.{Bool}
 use mathlib.Core.List.{List, [], _∷_}
 use Prim.Native.Nat.{ℕ}
 use native.Mathlib.Omega.{arith}
+use Rattle.semantics.specs.declared.operation.Unary.{Unary}
+use Rattle.semantics.specs.declared.operation.Binary.{Binary}
 use Rattle.semantics.specs.Parts.{Part}
 use Rattle.semantics.specs.Values.{Expr, name, input, constant, count, each, both, choose, fold, scan, shape-to, turn, part, join, rows}
 use Rattle.semantics.specs.Programs.{Program, end, be, put, show, again}
@@ -19,6 +22,21 @@ cons-rest h = cc
 
 pub cons-nil : {A : Type 0} {x : A} {xs : List A} → x ∷ xs ≡ [] → ⊥
 cons-nil h = let z : _≡_ {A = ℕ} 0 1 = cc in omega arith
+
+-- slices tell their part
+part-of : ℕ → Bool → ℕ → ℕ → Part
+part-of f b s m = record { from = f; backward = b; step = s; many = m }
+
+pub same-part : (p q : Part) → Slice (p .from) (p .backward) (p .step) (p .many) ≡ Slice (q .from) (q .backward) (q .step) (q .many) → p ≡ q
+unfolding part-of
+same-part p q h =
+    let a : p .from ≡ q .from = cc in
+    let b : p .backward ≡ q .backward = cc in
+    let c : p .step ≡ q .step = cc in
+    let d : p .many ≡ q .many = cc in
+    ap (λ x. part-of x (p .backward) (p .step) (p .many)) a
+    ∙ (ap (λ x. part-of (q .from) x (p .step) (p .many)) b
+    ∙ (ap (λ x. part-of (q .from) (q .backward) x (p .many)) c ∙ ap (λ x. part-of (q .from) (q .backward) (q .step) x) d))
 
 -- a family at a first step, carried over to the step that is equal
 at-first : {x s : Step} {xs t : List Step} (F : Step → Type 0) → x ∷ xs ≡ s ∷ t → (t ≡ xs → F x) → F s
@@ -118,3 +136,50 @@ view-no-lines (be k e p) r h = absurd (cons-nil h)
 view-no-lines (put k ps e p) r h = absurd (cons-nil h)
 view-no-lines (show e p) r h = absurd (cons-nil h)
 view-no-lines (again n b p) r h = absurd (cons-nil h)
+
+-- a step that opens an expression or a line is one of these
+pub no-expr : (x : Step) → Opens x → ((k : ℕ) → x ≡ Name k → ⊥) → ((k : ℕ) → x ≡ Input k → ⊥) → ((a : ℕ) → x ≡ Constant a → ⊥) → ((m : ℕ) → x ≡ Count m → ⊥) → ((k : Unary) → x ≡ Each k → ⊥) → ((k : Binary) → x ≡ Both k → ⊥) → (x ≡ Choose → ⊥) → ((k : Binary) (a : ℕ) → x ≡ Fold k a → ⊥) → ((k : Binary) (a : ℕ) → x ≡ Scan k a → ⊥) → (x ≡ Shape → ⊥) → (x ≡ Turn → ⊥) → (x ≡ Cut → ⊥) → ((a : ℕ) → x ≡ Join a → ⊥) → (x ≡ Rows → ⊥) → ⊥
+no-expr End o not-name not-input not-constant not-count not-each not-both not-choose not-fold not-scan not-shape not-turn not-cut not-join not-rows = absurd o
+no-expr (Let k) o not-name not-input not-constant not-count not-each not-both not-choose not-fold not-scan not-shape not-turn not-cut not-join not-rows = absurd o
+no-expr (Put k) o not-name not-input not-constant not-count not-each not-both not-choose not-fold not-scan not-shape not-turn not-cut not-join not-rows = absurd o
+no-expr Show o not-name not-input not-constant not-count not-each not-both not-choose not-fold not-scan not-shape not-turn not-cut not-join not-rows = absurd o
+no-expr (Again n) o not-name not-input not-constant not-count not-each not-both not-choose not-fold not-scan not-shape not-turn not-cut not-join not-rows = absurd o
+no-expr (Name k) o not-name not-input not-constant not-count not-each not-both not-choose not-fold not-scan not-shape not-turn not-cut not-join not-rows = not-name k refl
+no-expr (Input k) o not-name not-input not-constant not-count not-each not-both not-choose not-fold not-scan not-shape not-turn not-cut not-join not-rows = not-input k refl
+no-expr (Constant x) o not-name not-input not-constant not-count not-each not-both not-choose not-fold not-scan not-shape not-turn not-cut not-join not-rows = not-constant x refl
+no-expr (Count m) o not-name not-input not-constant not-count not-each not-both not-choose not-fold not-scan not-shape not-turn not-cut not-join not-rows = not-count m refl
+no-expr (Each k) o not-name not-input not-constant not-count not-each not-both not-choose not-fold not-scan not-shape not-turn not-cut not-join not-rows = not-each k refl
+no-expr (Both k) o not-name not-input not-constant not-count not-each not-both not-choose not-fold not-scan not-shape not-turn not-cut not-join not-rows = not-both k refl
+no-expr Choose o not-name not-input not-constant not-count not-each not-both not-choose not-fold not-scan not-shape not-turn not-cut not-join not-rows = not-choose refl
+no-expr (Fold k a) o not-name not-input not-constant not-count not-each not-both not-choose not-fold not-scan not-shape not-turn not-cut not-join not-rows = not-fold k a refl
+no-expr (Scan k a) o not-name not-input not-constant not-count not-each not-both not-choose not-fold not-scan not-shape not-turn not-cut not-join not-rows = not-scan k a refl
+no-expr Shape o not-name not-input not-constant not-count not-each not-both not-choose not-fold not-scan not-shape not-turn not-cut not-join not-rows = not-shape refl
+no-expr Turn o not-name not-input not-constant not-count not-each not-both not-choose not-fold not-scan not-shape not-turn not-cut not-join not-rows = not-turn refl
+no-expr Cut o not-name not-input not-constant not-count not-each not-both not-choose not-fold not-scan not-shape not-turn not-cut not-join not-rows = not-cut refl
+no-expr (Join x) o not-name not-input not-constant not-count not-each not-both not-choose not-fold not-scan not-shape not-turn not-cut not-join not-rows = not-join x refl
+no-expr Rows o not-name not-input not-constant not-count not-each not-both not-choose not-fold not-scan not-shape not-turn not-cut not-join not-rows = not-rows refl
+no-expr (Item k) o not-name not-input not-constant not-count not-each not-both not-choose not-fold not-scan not-shape not-turn not-cut not-join not-rows = absurd o
+no-expr (Slice f b s m) o not-name not-input not-constant not-count not-each not-both not-choose not-fold not-scan not-shape not-turn not-cut not-join not-rows = absurd o
+
+pub no-line : (x : Step) → Opens-line x → (x ≡ End → ⊥) → ((k : ℕ) → x ≡ Let k → ⊥) → ((k : ℕ) → x ≡ Put k → ⊥) → (x ≡ Show → ⊥) → ((n : ℕ) → x ≡ Again n → ⊥) → ⊥
+no-line End o not-end not-let not-put not-show not-again = not-end refl
+no-line (Let k) o not-end not-let not-put not-show not-again = not-let k refl
+no-line (Put k) o not-end not-let not-put not-show not-again = not-put k refl
+no-line Show o not-end not-let not-put not-show not-again = not-show refl
+no-line (Again n) o not-end not-let not-put not-show not-again = not-again n refl
+no-line (Name k) o not-end not-let not-put not-show not-again = absurd o
+no-line (Input k) o not-end not-let not-put not-show not-again = absurd o
+no-line (Constant x) o not-end not-let not-put not-show not-again = absurd o
+no-line (Count m) o not-end not-let not-put not-show not-again = absurd o
+no-line (Each k) o not-end not-let not-put not-show not-again = absurd o
+no-line (Both k) o not-end not-let not-put not-show not-again = absurd o
+no-line Choose o not-end not-let not-put not-show not-again = absurd o
+no-line (Fold k a) o not-end not-let not-put not-show not-again = absurd o
+no-line (Scan k a) o not-end not-let not-put not-show not-again = absurd o
+no-line Shape o not-end not-let not-put not-show not-again = absurd o
+no-line Turn o not-end not-let not-put not-show not-again = absurd o
+no-line Cut o not-end not-let not-put not-show not-again = absurd o
+no-line (Join x) o not-end not-let not-put not-show not-again = absurd o
+no-line Rows o not-end not-let not-put not-show not-again = absurd o
+no-line (Item k) o not-end not-let not-put not-show not-again = absurd o
+no-line (Slice f b s m) o not-end not-let not-put not-show not-again = absurd o

@@ -54,6 +54,10 @@ pub record Skips (ws : List ℕ) (i j : ℕ) : Type 0 where
 pub record Skips-slices (ws : List ℕ) (i j : ℕ) : Type 0 where
   pub on : (ps : List Part) (e : Expr ℕ) (r : List Step) → steps-from ws i ≡ slices ps (spell e r) → steps-from ws j ≡ spell e r
 
+-- the lines of an `again` that stand at i are followed, behind their `End`, by what stands at j
+pub record Closes (ws : List ℕ) (i j : ℕ) : Type 0 where
+  pub on : (b : Program ℕ) (r : List Step) → steps-from ws i ≡ spell-program b (End ∷ r) → steps-from ws j ≡ r
+
 -- an expression by its first step: r is behind it, t behind the step
 pub data View (r t : List Step) : Expr ℕ → Step → Type 0 where
   is-name : {k : ℕ} → t ≡ r → View r t (name k) (Name k)
@@ -103,6 +107,17 @@ pub data Items-view (q t : List Step) : List ℕ → Step → Type 0 where
 pub data Slices-view (q t : List Step) : List Part → Step → Type 0 where
   slice : {p : Part} {ps : List Part} → t ≡ slices ps q → Slices-view q t (p ∷ ps) (Slice (p .from) (p .backward) (p .step) (p .many))
   no-slice : {s : Step} → Opens s → q ≡ s ∷ t → Slices-view q t [] s
+
+-- a list with an item or a slice first: q is behind it, t behind its first step
+pub record First-item (k : ℕ) (ks : List ℕ) (q t : List Step) : Type 0 where
+  pub others : List ℕ
+  pub list : ks ≡ k ∷ others
+  pub enc : t ≡ items others q
+
+pub record First-slice (p : Part) (ps : List Part) (q t : List Step) : Type 0 where
+  pub others : List Part
+  pub list : ps ≡ p ∷ others
+  pub enc : t ≡ slices others q
 
 -- lines by their first step: r is behind them, t behind the step
 pub data Lines-view (r t : List Step) : Program ℕ → Step → Type 0 where

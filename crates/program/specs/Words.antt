@@ -118,9 +118,11 @@ unfoldable pub places-in : List ℕ → List ℕ
 unfolding place-in
 places-in ws = map (place-in ws) (counting 0 (length ws / 5))
 
--- what reading a step answers where there is one
-abbrev pub At : List ℕ → ℕ → Step → Type 0
-At ws k s = (k < length (steps-in ws)) × (s ≡ getD (steps-in ws) k End)
+-- step k is s; its words are there
+pub record At (ws : List ℕ) (k : ℕ) (s : Step) : Type 0 where
+  pub there : k < length (steps-in ws)
+  pub is : s ≡ getD (steps-in ws) k End
+  pub words : 5 * k + 5 ≤ length ws
 
 -- old with a step and its place at a node: all other words are as they were
 pub record Stored (old new : List ℕ) (node : ℕ) (step : Step) (place : ℕ) : Type 0 where

@@ -3,6 +3,9 @@ ghost use mathlib.Core.Path.{_≡_};
 ghost use Prim.Native.Nat.{_/_, _<_, _≤_};
 ghost use lib.ListN.{length};
 ghost use Rattle.std.specs.Options.{Cases as BySome};
+ghost use Rattle.std.specs.declared.option.Option.the-variants.{None};
+ghost use Rattle.program.specs.Standing.{steps-from};
+ghost use Rattle.program.specs.Closing.{closing, Ends-at};
 ghost use Rattle.program.specs.Words.{unary-code, binary-code, unary-of, binary-of, words-of, step-of, steps-in, place-in, At, Stores};
 use crate::step::Step;
 use semantics::operation::Binary;
@@ -189,4 +192,26 @@ pub fn put_step(words: &mut [u32], node: usize, step: Step, place: u32) -> bool
     let at = STEP_WORDS * node;
     words[at..at + STEP_WORDS].copy_from_slice(&write_step(step, place));
     true
+}
+
+// The step behind the `End` that closes the lines from `node` on, or none where nothing closes them.
+pub fn find_end(words: &[u32], node: usize) -> Option<usize>
+    ensures { λ r. ⌜ BySome r (closing 0 (steps-from (now (words .entry)) node) ≡ None) (λ j. Ends-at (now (words .entry)) node j) ⌝ }
+{
+    let mut inside: usize = 0;
+    let mut at = node;
+    while let Some(step) = step_at(words, at) {
+        at += 1;
+        match step {
+            Step::Again(_) => inside += 1,
+            Step::End => {
+                if inside == 0 {
+                    return Some(at);
+                }
+                inside -= 1;
+            }
+            _ => {}
+        }
+    }
+    None
 }

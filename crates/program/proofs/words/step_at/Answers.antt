@@ -10,4 +10,8 @@ pub returns : need.returns
 unfolding step-in
 returns c =
     let there : c .args .node < length (c .args .words .now) / 5 = omega arith in
-    (omega arith, c .read-step .ensures ∙ sym (steps-in-at (c .args .words .now) (c .args .node) there))
+    record {
+      there = omega arith;
+      is = c .read-step .ensures ∙ sym (steps-in-at (c .args .words .now) (c .args .node) there);
+      words = omega arith;
+    }
