@@ -1,0 +1,3 @@
+// Loops over numbers.
+pub mod blocks;
+mod operators;
