@@ -6,9 +6,11 @@ use native.Mathlib.Nat.{zero-add}
 use native.Mathlib.Omega.{arith}
 use lib.IntN.{ℤ, pos, _+ℤ_, natAbs}
 use lib.ListN.{length, getD}
-use Rattle.semantics.specs.Shapes.{size, In, flat}
+use Rattle.semantics.specs.Shapes.{size, In, flat, unflat, up-to}
+use Rattle.semantics.specs.Programs.{numbers-at}
+use Rattle.semantics.proofs.Listings.{numbers-at-is}
 use Rattle.semantics.specs.Arrays.{Array}
-use Rattle.semantics.proofs.Places.{inside-in, flat-below}
+use Rattle.semantics.proofs.Places.{inside-in, in-inside, inside-unflat, flat-unflat, flat-below}
 use Rattle.bytes.specs.declared.header.Header.{Header}
 use Rattle.bytes.specs.ShapeOf.{shape-of}
 use Rattle.bytes.specs.Format.{shape-at, start-at, next-at, number-at, array-at}
@@ -19,6 +21,7 @@ use Rattle.views.specs.declared.view.Source.{Source}
 use Rattle.views.specs.declared.view.Source.the-variants.{Area, Input}
 use Rattle.views.specs.declared.view.View.{View}
 use Rattle.views.specs.Walking.{Lies, Walks, Row-major}
+use Rattle.views.specs.Copying.{Walk, Copied}
 use Rattle.views.specs.Views.{Good, Reaches, Holds, Sees, Packed, Whole, Laid, address, number-from, seen}
 
 pub good-lies : (v : View) (is : List ℕ) → Good v → In (shape-of (v .shape)) is → Lies (v .low) (v .high) (address v is)
@@ -133,3 +136,29 @@ input-holds {head} w area bs at h =
     let same = ap size (h .shaped) in
     whole-holds w area bs (array-at bs at) (h .shaped) (omega (arith, h .starts))
     (λ is i. ap₂ (λ b n. number-at bs (b + 8 * n)) (h .starts) (zero-add (flat (shape-at bs at) is)))
+
+pub view-walk : (v : View) (area bs : List ℕ) → Good v → Reaches (v .source) area bs (v .high) → Walk (v .source) area bs (shape-of (v .shape)) (v .strides) (v .start)
+view-walk v area bs g there =
+    record {
+      high = v .high;
+      short = g .short;
+      there = there;
+      walks = record { lies = λ is h. let l = g .walks .lies is h in record { word = l .word; is = l .is; above = omega arith; below = l .below } };
+    }
+
+pub copied-seen : (v : View) {area bs out : List ℕ} → Copied (v .source) area bs (shape-of (v .shape)) (v .strides) (v .start) out →
+    (is : List ℕ) → In (shape-of (v .shape)) is → getD out (flat (shape-of (v .shape)) is) 0 ≡ seen area bs v is
+unfolding seen address
+copied-seen v w is h = w .each is h
+
+-- numbers that stand at each place's number are the array's numbers in order
+pub seen-listed : {area bs out : List ℕ} {v : View} {a : Array ℕ} → Holds area bs v a → length out ≡ size (shape-of (v .shape)) →
+    ((is : List ℕ) → In (shape-of (v .shape)) is → getD out (flat (shape-of (v .shape)) is) 0 ≡ seen area bs v is) → out ≡ numbers-at a (up-to 0 (size (a .shape)))
+seen-listed {area} {bs} {out} {v} {a} h long each =
+    let s = shape-of (v .shape) in
+    sym
+    (numbers-at-is a out 0 (long ∙ ap size (h .shaped))
+    (λ k l.
+    let low : k < size s = omega arith in
+    let inside = in-inside (inside-unflat s k low) in
+    ap (λ n. getD out n 0) (sym (flat-unflat s k low)) ∙ (each (unflat s k) inside ∙ (h .shows (unflat s k) inside ∙ ap (λ t. a .at (unflat t k)) (h .shaped)))))

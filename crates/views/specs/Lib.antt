@@ -1,2 +1,4 @@
 pub mod Walking
 pub mod Views
+pub mod Copying
+pub mod Broadcasting
