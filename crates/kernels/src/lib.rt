@@ -1,3 +1,4 @@
 // Loops over numbers.
 pub mod blocks;
+pub mod laws;
 mod operators;
