@@ -1,3 +1,5 @@
 pub mod Turns
 pub mod Narrowing
 pub mod Fusing
+pub mod Numbering
+pub mod Readings

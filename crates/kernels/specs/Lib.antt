@@ -1,2 +1,3 @@
 pub mod Blocks
 pub mod Trees
+pub mod Reading

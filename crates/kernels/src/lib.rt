@@ -1,4 +1,7 @@
 // Loops over numbers.
 pub mod blocks;
 pub mod laws;
+pub mod leaves;
 mod operators;
+pub mod row;
+pub mod rows;
