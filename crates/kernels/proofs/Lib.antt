@@ -3,3 +3,4 @@ pub mod Narrowing
 pub mod Fusing
 pub mod Numbering
 pub mod Readings
+pub mod Feeding

@@ -5,3 +5,4 @@ pub mod leaves;
 mod operators;
 pub mod row;
 pub mod rows;
+pub mod slot;
