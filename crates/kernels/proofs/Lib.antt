@@ -4,3 +4,4 @@ pub mod Fusing
 pub mod Numbering
 pub mod Readings
 pub mod Feeding
+pub mod Growing

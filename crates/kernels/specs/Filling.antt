@@ -3,20 +3,21 @@ use mathlib.Core.Path.{_≡_}
 use mathlib.Core.List.{List, [], _∷_}
 use Prim.Native.Nat.{ℕ, suc, _+_, _*_, _≤_, max}
 use lib.Ieee.{Float}
-use lib.ListN.{getD}
+use lib.ListN.{length, getD}
 use Rattle.semantics.specs.Shapes.{size, unflat}
 use Rattle.semantics.specs.Arrays.{Array}
 use Rattle.semantics.specs.Values.{Expr, name, input, constant, count, each, both, choose, fold, scan, shape-to, turn, part, join, rows, Cell, none, some, given}
 use Rattle.bytes.specs.Format.{inputs-of}
 use Rattle.program.specs.declared.step.Step.{Step}
 use Rattle.program.specs.Spelling.{spell}
-use Rattle.program.specs.Standing.{steps-from}
+use Rattle.program.specs.Standing.{steps-from, Skips}
 use Rattle.views.specs.declared.view.View.{View}
 use Rattle.views.specs.Views.{Holds}
+use Rattle.kernels.specs.declared.cost.Cost.{Cost}
 use Rattle.kernels.specs.declared.slot.Slot.{Slot}
 use Rattle.kernels.specs.declared.slot.Slot.the-variants.{Empty, Held}
 use Rattle.kernels.specs.Blocks.{Stand-for}
-use Rattle.kernels.specs.Trees.{tree, cell-number, Cell-leaf, Leaves}
+use Rattle.kernels.specs.Trees.{tree, cell-number, Cell-leaf, Leaves, Fusable}
 
 -- a slot stands for what a name has
 pub data Slot-holds (area bs : List ℕ) : Slot → Cell ℕ → Type 0 where
@@ -69,6 +70,20 @@ blocks (part ps e) = 0
 blocks (join x e f) = 0
 blocks (rows e f) = 0
 
--- there is room for them
-pub record Roomy (ws : List ℕ) (i many spare : ℕ) : Type 0 where
-  pub room : (e : Expr ℕ) (r : List Step) → steps-from ws i ≡ spell e r → blocks e * many ≤ spare
+-- a tree that is ready, with room for its blocks of so many numbers in a spare slice
+pub record Able (ws : List ℕ) (i : ℕ) (table : List Slot) (area bs w : List ℕ) (many spare : ℕ) : Type 0 where
+  pub ready : Ready ws i table area bs w
+  pub room : blocks (ready .expr) * many ≤ spare
+
+-- a tree stands at node i
+pub record Tree-stands (ws : List ℕ) (i : ℕ) : Type 0 where
+  pub expr : Expr ℕ
+  pub rest : List Step
+  pub enc : steps-from ws i ≡ spell expr rest
+  pub tree : Fusable expr
+
+-- the node behind the tree at node i, and how many blocks the tree needs
+pub record Costs (ws : List ℕ) (i : ℕ) (r : Cost) : Type 0 where
+  pub skips : Skips ws i (r .next)
+  pub few : r .blocks ≤ length ws
+  pub needs : (e : Expr ℕ) (q : List Step) → steps-from ws i ≡ spell e q → r .blocks ≡ blocks e

@@ -1,8 +1,9 @@
 // Operations over blocks of numbers: which one is chosen outside the loop, so that each is one simple loop.
 ghost use mathlib.Core.Path.{_≡_};
 ghost use lib.ListN.{length};
-ghost use Rattle.kernels.specs.Blocks.{Applied, Joined};
+ghost use Rattle.kernels.specs.Blocks.{Applied, Joined, Chosen, Chosen-float};
 use crate::operators::*;
+use numbers::truth_of;
 use semantics::operation::Binary;
 use semantics::operation::Unary;
 
@@ -50,5 +51,22 @@ pub fn apply_binary(op: Binary, left: &mut [f64], right: &[f64])
         Binary::Same => apply_two::<Equal>(left, right),
         Binary::Least => apply_two::<Lesser>(left, right),
         Binary::Most => apply_two::<Greater>(left, right),
+    }
+}
+
+fn choose_float(c: f64, x: f64, y: f64) -> f64
+    ensures { λ r. ⌜ Chosen-float c x y r ⌝ }
+{
+    if truth_of(c) { x } else { y }
+}
+
+// Each number of the left or of the right block, by whether that of the first counts as true, into the first.
+pub fn choose_blocks(block: &mut [f64], left: &[f64], right: &[f64])
+    requires left { ⌜ length (now left) ≡ length (now block) ⌝ }
+    requires right { ⌜ length (now right) ≡ length (now block) ⌝ }
+    ensures { λ _. ⌜ Chosen (now (block .entry)) (now (left .entry)) (now (right .entry)) (now (block .exit)) ⌝ }
+{
+    for k in 0..block.len() {
+        block[k] = choose_float(block[k], left[k], right[k]);
     }
 }

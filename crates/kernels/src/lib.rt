@@ -1,8 +1,10 @@
 // Loops over numbers.
 pub mod blocks;
+pub mod cost;
 pub mod laws;
 pub mod leaves;
 mod operators;
 pub mod row;
 pub mod rows;
 pub mod slot;
+pub mod trees;
