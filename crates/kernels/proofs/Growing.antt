@@ -2,7 +2,7 @@
 use mathlib.Core.Path.{_≡_, refl, sym, ap, subst, _∙_}
 use mathlib.Core.List.{List, [], _∷_}
 use Prim.Native.Nat.{ℕ, _+_, _*_, _-_, _≤_, _<_, max}
-use native.Mathlib.Nat.{add-mul, one-mul, mul-le-mul-right}
+use native.Mathlib.Nat.{add-mul, one-mul, mul-le-mul-right, mul-le-mul-left}
 use native.Mathlib.Omega.{arith}
 use lib.Ieee.{Float}
 use lib.ListN.{length, getD}
@@ -23,7 +23,8 @@ use Rattle.program.proofs.Nodes.{expr-view, expr-there, expr-further}
 use Rattle.kernels.specs.declared.slot.Slot.{Slot}
 use Rattle.kernels.specs.Blocks.{Stand-for, Applied, Joined, Chosen}
 use Rattle.kernels.specs.Trees.{tree, cell-number, Cell-leaf, Leaves}
-use Rattle.kernels.specs.Filling.{Tabled, Name-ready, Input-ready, Cell-filled, Ready, Filled, blocks, Able}
+use Rattle.kernels.specs.declared.cost.Cost.{Cost}
+use Rattle.kernels.specs.Filling.{Tabled, Name-ready, Input-ready, Cell-filled, Ready, Filled, blocks, Able, Costs}
 
 -- ---- blocks, number by number
 pub applied-stand : {op : Unary} {old new : List Float} {f : ℕ → ℕ} → Applied op old new → length new ≡ length old → Stand-for old f → Stand-for new (λ k. binary64 .one op (f k))
@@ -294,3 +295,13 @@ module _ {ws : List ℕ} {i : ℕ} {x : Step} (at : At ws i x) where
 
 pub able-further : {ws : List ℕ} {i j : ℕ} {table : List Slot} {area bs w : List ℕ} → Ready ws i table area bs w → Skips ws i j → i < j
 able-further {ws} {i} {j} q s = expr-further ws i j (q .expr) (q .rest) (q .enc) (s .on (q .expr) (q .rest) (q .enc))
+
+-- the same over an area that has the same words
+abbrev pub ready-same : {ws : List ℕ} {i : ℕ} {table : List Slot} {area new bs w : List ℕ} → area ≡ new → Ready ws i table area bs w → Ready ws i table new bs w
+ready-same {table = table} {bs = bs} e q =
+    record { names = q .names; tabled = subst (λ a. Tabled a bs table (q .names)) e (q .tabled); expr = q .expr; rest = q .rest; enc = q .enc; leaves = q .leaves }
+
+pub block-able : {ws : List ℕ} {i : ℕ} {table : List Slot} {area bs w : List ℕ} {r : Cost} {len many spare : ℕ} → Ready ws i table area bs w → Costs ws i r → r .blocks * len ≤ 4096 → many ≤ len → 4096 ≤ spare → Able ws i table area bs w many spare
+block-able {r = r} {len} {many} {spare} q c fits few room =
+    let same = c .needs (q .expr) (q .rest) (q .enc) in
+    record { ready = q; room = subst (λ b. b * many ≤ spare) same (omega (arith, mul-le-mul-left (r .blocks) few)) }

@@ -5,3 +5,5 @@ pub mod Numbering
 pub mod Readings
 pub mod Feeding
 pub mod Growing
+pub mod Costing
+pub mod Patterned

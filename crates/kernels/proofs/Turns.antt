@@ -1,13 +1,13 @@
 -- One turn of a loop that goes over a list and sets element k: what held below k and now of k, and what is as it was behind it.
-use mathlib.Core.Path.{_≡_, sym, subst, _∙_}
+use mathlib.Core.Path.{_≡_, refl, sym, ap, subst, _∙_}
 use mathlib.Core.Logic.{_≢_, ⊎-elim}
-use mathlib.Core.List.{List, _++_}
-use Prim.Native.Nat.{ℕ, _+_, _-_, _≤_, _<_}
+use mathlib.Core.List.{List, [], _∷_, _++_}
+use Prim.Native.Nat.{ℕ, zero, suc, _+_, _-_, _≤_, _<_}
 use native.Mathlib.Omega.{arith}
 use borrow.Author.Count.{below-more}
 use lib.ListN.{length, getD, set, take, drop, length-append, length-take, length-drop}
 use borrow.Rule.Slice.PartMut.{putMid, postOf}
-use Rattle.std.proofs.shelf.Lists.{getD-take, getD-append-left, getD-append-right, length-take-le}
+use Rattle.std.proofs.shelf.Lists.{drop-drop, getD-take, getD-append-left, getD-append-right, length-take-le}
 use Rattle.std.proofs.shelf.Tests.{cases-lt}
 use lib.Seq.{getD-set-same, getD-set-other}
 
@@ -42,3 +42,29 @@ module _ {A : Type 0} (d : A) where
   -- a part that is lent
   pub length-part : (a n : ℕ) (xs : List A) → a + n ≤ length xs → length (take (a + n - a) (drop a xs)) ≡ n
   length-part a n xs l = omega (arith, length-take (a + n - a) (drop a xs), length-drop a xs)
+
+  -- an element of a part that was written
+  pub part-at : (a k : ℕ) (xs ys : List A) (n : ℕ) → a ≤ length xs → n < length ys → getD (putMid a k xs ys) (a + n) d ≡ getD ys n d
+  part-at a k xs ys n few l =
+      let long = length-take-le a xs few in
+      let more : a ≤ a + n = omega arith in
+      let same : a + n - a ≡ n = omega arith in
+      getD-append-right (take a xs) (ys ++ postOf a k xs) a (a + n) d long more ∙ (ap (λ i. getD (ys ++ postOf a k xs) i d) same ∙ getD-append-left ys (postOf a k xs) d n l)
+
+-- lists with the same front, or the same rest
+pub take-fewer : {A : Type 0} (n m : ℕ) (xs ys : List A) → n ≤ m → take m xs ≡ take m ys → take n xs ≡ take n ys
+take-fewer n m xs ys l e = sym (take-take n m xs l) ∙ (ap (take n) e ∙ take-take n m ys l)
+  where
+    take-take : {A : Type 0} (n m : ℕ) (xs : List A) → n ≤ m → take n (take m xs) ≡ take n xs
+    take-take zero m xs l = refl
+    take-take (suc n) zero xs l = absurd (omega arith)
+    take-take (suc n) (suc m) [] l = refl
+    take-take (suc n) (suc m) (x ∷ xs) l = ap (λ v. x ∷ v) (take-take n m xs (omega arith))
+
+pub drop-more-same : {A : Type 0} (n m : ℕ) (xs ys : List A) → n ≤ m → drop n xs ≡ drop n ys → drop m xs ≡ drop m ys
+drop-more-same n m xs ys l e =
+    let same : n + (m - n) ≡ m = omega arith in
+    ap (λ k. drop k xs) (sym same) ∙ (sym (drop-drop (m - n) n xs) ∙ (ap (drop (m - n)) e ∙ (drop-drop (m - n) n ys ∙ ap (λ k. drop k ys) same)))
+
+pub getD-front : (m : ℕ) (xs ys : List ℕ) → take m xs ≡ take m ys → (i : ℕ) → i < m → getD xs i 0 ≡ getD ys i 0
+getD-front m xs ys e i l = sym (getD-take m xs i 0 l) ∙ (ap (λ v. getD v i 0) e ∙ getD-take m ys i 0 l)

@@ -1,9 +1,9 @@
 -- What is needed to fill a block with the numbers of a tree, and what the block then has.
 use mathlib.Core.Path.{_≡_}
 use mathlib.Core.List.{List, [], _∷_}
-use Prim.Native.Nat.{ℕ, suc, _+_, _*_, _≤_, max}
+use Prim.Native.Nat.{ℕ, suc, _+_, _*_, _≤_, _<_, max}
 use lib.Ieee.{Float}
-use lib.ListN.{length, getD}
+use lib.ListN.{length, getD, take, drop}
 use Rattle.semantics.specs.Shapes.{size, unflat}
 use Rattle.semantics.specs.Arrays.{Array}
 use Rattle.semantics.specs.Values.{Expr, name, input, constant, count, each, both, choose, fold, scan, shape-to, turn, part, join, rows, Cell, none, some, given}
@@ -87,3 +87,19 @@ pub record Costs (ws : List ℕ) (i : ℕ) (r : Cost) : Type 0 where
   pub skips : Skips ws i (r .next)
   pub few : r .blocks ≤ length ws
   pub needs : (e : Expr ℕ) (q : List Step) → steps-from ws i ≡ spell e q → r .blocks ≡ blocks e
+
+-- a tree whose blocks fit the spare slice, if each has a single number
+pub record Shallow (ws : List ℕ) (i : ℕ) : Type 0 where
+  pub few : (e : Expr ℕ) (r : List Step) → steps-from ws i ≡ spell e r → blocks e ≤ 4096
+
+-- so many numbers of a tree, from place `first` on, stand at their words; all other words are as they were
+pub record Part-stored (ws : List ℕ) (i : ℕ) (table : List Slot) (bs w : List ℕ) (to first many : ℕ) (old new : List ℕ) : Type 0 where
+  pub before : take (to + first) new ≡ take (to + first) old
+  pub behind : drop (to + first + many) new ≡ drop (to + first + many) old
+  pub each : (q : Ready ws i table (take to old) bs w) (n : ℕ) → n < many → getD new (to + first + n) 0 ≡ tree (inputs-of bs) (q .names) (q .expr) (unflat w (first + n))
+
+-- the numbers of a tree stand rows first from word `to` on; all other words are as they were
+pub record Stored (ws : List ℕ) (i : ℕ) (table : List Slot) (bs w : List ℕ) (to : ℕ) (old new : List ℕ) : Type 0 where
+  pub before : take to new ≡ take to old
+  pub behind : drop (to + size w) new ≡ drop (to + size w) old
+  pub each : (q : Ready ws i table (take to old) bs w) (n : ℕ) → n < size w → getD new (to + n) 0 ≡ tree (inputs-of bs) (q .names) (q .expr) (unflat w n)

@@ -7,4 +7,5 @@ mod operators;
 pub mod row;
 pub mod rows;
 pub mod slot;
+pub mod storing;
 pub mod trees;

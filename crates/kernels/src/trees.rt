@@ -4,10 +4,11 @@ ghost use lib.ListN.{length};
 ghost use Rattle.semantics.specs.Shapes.{size};
 ghost use Rattle.bytes.specs.ShapeOf.{shape-of};
 ghost use Rattle.program.specs.Standing.{Skips};
-ghost use Rattle.kernels.specs.Filling.{Able, Filled};
+ghost use Rattle.kernels.specs.Filling.{Able, Filled, Tree-stands, Costs};
 use crate::blocks::apply_binary;
 use crate::blocks::apply_unary;
 use crate::blocks::choose_blocks;
+use crate::cost::Cost;
 use crate::leaves::fill_count;
 use crate::leaves::fill_input;
 use crate::leaves::fill_name;
@@ -17,6 +18,41 @@ use bytes::shape::Shape;
 use numbers::float_of;
 use program::step::Step;
 use program::words::step_at;
+
+// What the tree at `node` takes.
+pub fn cost_of(words: &[u32], node: usize) -> Cost
+    requires { ⌜ Tree-stands (now words) node ⌝ }
+    ensures { λ r. ⌜ Costs (now (words .entry)) node r ⌝ }
+{
+    let Some(step) = step_at(words, node) else {
+        return unreachable();
+    };
+    match step {
+        Step::Name(_) | Step::Input(_) | Step::Constant(_) | Step::Count(_) => Cost {
+            next: node + 1,
+            blocks: 0,
+        },
+        Step::Each(_) => cost_of(words, node + 1),
+        Step::Both(_) => {
+            let left = cost_of(words, node + 1);
+            let right = cost_of(words, left.next);
+            Cost {
+                next: right.next,
+                blocks: left.blocks.max(1 + right.blocks),
+            }
+        }
+        Step::Choose => {
+            let first = cost_of(words, node + 1);
+            let left = cost_of(words, first.next);
+            let right = cost_of(words, left.next);
+            Cost {
+                next: right.next,
+                blocks: first.blocks.max((1 + left.blocks).max(2 + right.blocks)),
+            }
+        }
+        _ => unreachable(),
+    }
+}
 
 // The numbers of the tree at `node` from place `first` on, and the node behind the tree. An operation's later
 // operands go into blocks of the spare slice, which holds nothing that lasts.
