@@ -7,3 +7,4 @@ pub mod Feeding
 pub mod Growing
 pub mod Costing
 pub mod Patterned
+pub mod Listing

@@ -4,7 +4,10 @@ use mathlib.Core.List.{List, [], _∷_}
 use Prim.Native.Nat.{ℕ, suc, _+_, _*_, _≤_, _<_, max}
 use lib.Ieee.{Float}
 use lib.ListN.{length, getD, take, drop}
-use Rattle.semantics.specs.Shapes.{size, unflat}
+use Rattle.semantics.specs.Shapes.{size, unflat, up-to}
+use Rattle.semantics.specs.Programs.{numbers-at}
+use Rattle.bytes.specs.Words.{written}
+use Rattle.bytes.specs.Writing.{number-bytes}
 use Rattle.semantics.specs.Arrays.{Array}
 use Rattle.semantics.specs.Values.{Expr, name, input, constant, count, each, both, choose, fold, scan, shape-to, turn, part, join, rows, Cell, none, some, given}
 use Rattle.bytes.specs.Format.{inputs-of}
@@ -103,3 +106,19 @@ pub record Stored (ws : List ℕ) (i : ℕ) (table : List Slot) (bs w : List ℕ
   pub before : take to new ≡ take to old
   pub behind : drop (to + size w) new ≡ drop (to + size w) old
   pub each : (q : Ready ws i table (take to old) bs w) (n : ℕ) → n < size w → getD new (to + n) 0 ≡ tree (inputs-of bs) (q .names) (q .expr) (unflat w n)
+
+-- what a tree comes to, as an array
+unfoldable pub tree-array : List (Array ℕ) → List (Cell ℕ) → Expr ℕ → List ℕ → Array ℕ
+unfolding tree
+tree-array ins ns e w = record { shape = w; at = λ is. tree ins ns e is }
+
+-- so many numbers of a tree, from place `first` on, stand as bytes behind those before them; all other bytes are as they were
+pub record Block-shown (ws : List ℕ) (i : ℕ) (table : List Slot) (area bs w : List ℕ) (first index many : ℕ) (old new : List ℕ) : Type 0 where
+  pub list : List ℕ
+  pub long : length list ≡ many
+  pub bytes : new ≡ written old (index + 8 * first) (number-bytes list)
+  pub each : (q : Ready ws i table area bs w) (n : ℕ) → n < length list → getD list n 0 ≡ tree (inputs-of bs) (q .names) (q .expr) (unflat w (first + n))
+
+-- the first so many numbers of a tree stand as bytes at an index; all other bytes are as they were
+pub record Shown (ws : List ℕ) (i : ℕ) (table : List Slot) (area bs w : List ℕ) (index many : ℕ) (old new : List ℕ) : Type 0 where
+  pub shown : (q : Ready ws i table area bs w) → new ≡ written old index (number-bytes (numbers-at (tree-array (inputs-of bs) (q .names) (q .expr) w) (up-to 0 many)))

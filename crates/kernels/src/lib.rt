@@ -6,6 +6,7 @@ pub mod leaves;
 mod operators;
 pub mod row;
 pub mod rows;
+pub mod showing;
 pub mod slot;
 pub mod storing;
 pub mod trees;

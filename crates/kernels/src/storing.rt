@@ -20,7 +20,7 @@ const BLOCK: usize = 256;
 const SPARE: usize = 4096;
 
 // How long blocks may be so that so many of them fit the spare slice.
-fn block_length(blocks: usize) -> usize
+pub(crate) fn block_length(blocks: usize) -> usize
     requires { ⌜ blocks ≤ 4096 ⌝ }
     ensures some { λ r. ⌜ 0 < r ⌝ }
     ensures few { λ r. ⌜ r ≤ 256 ⌝ }
@@ -33,7 +33,7 @@ fn block_length(blocks: usize) -> usize
 }
 
 // A block as patterns.
-fn write_block(block: &[f64], out: &mut [u64])
+pub(crate) fn write_block(block: &[f64], out: &mut [u64])
     requires { ⌜ length (now out) ≡ length (now block) ⌝ }
     ensures { λ _. ⌜ ((f : ℕ → ℕ) → Stand-for (now (block .entry)) f → ((k : ℕ) → k < length (now (block .entry)) → Pattern (f k)) → (k : ℕ) → k < length (now (block .entry)) → getD (now (out .exit)) k 0 ≡ f k) ⌝ }
 {
