@@ -3,3 +3,4 @@ mod Values
 pub mod Fields
 pub mod Written
 pub mod Indexed
+pub mod Floated

@@ -69,14 +69,14 @@ unfolding canonical-bits nanBits
 flag-pattern true = record { below = lit< tt; plain = refl }
 flag-pattern false = record { below = lit< tt; plain = refl }
 
-abs-fits : (v : Float) → T (fits binary64 v) → T (fits binary64 (Floats.withSign false v))
+pub abs-fits : (v : Float) → T (fits binary64 v) → T (fits binary64 (Floats.withSign false v))
 unfolding fits Floats.withSign
 abs-fits nan h = tt
 abs-fits (inf s) h = tt
 abs-fits (fin s zero e) h = h
 abs-fits (fin s (suc m) e) h = h
 
-sqrt-fits : (v : Float) → T (fits binary64 v) → T (fits binary64 (Floats.sqrt binary64 v))
+pub sqrt-fits : (v : Float) → T (fits binary64 v) → T (fits binary64 (Floats.sqrt binary64 v))
 unfolding fits Floats.sqrt
 sqrt-fits nan h = tt
 sqrt-fits (inf true) h = tt
@@ -85,7 +85,7 @@ sqrt-fits (fin s zero e) h = h
 sqrt-fits (fin true (suc m) e) h = tt
 sqrt-fits (fin false (suc m) e) h = round-fits binary64 false _ _
 
-floor-fits : (v : Float) → T (fits binary64 (Floats.floor binary64 v))
+pub floor-fits : (v : Float) → T (fits binary64 (Floats.floor binary64 v))
 unfolding Floats.wholeBy
 floor-fits nan = nan-fits binary64
 floor-fits (inf s) = inf-fits binary64 s

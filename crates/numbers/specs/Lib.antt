@@ -4,3 +4,4 @@ pub mod Named
 pub mod Operations
 pub mod Patterns
 pub mod Indices
+pub mod Standing

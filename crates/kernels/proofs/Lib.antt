@@ -1,0 +1,10 @@
+pub mod Turns
+pub mod Narrowing
+pub mod Fusing
+pub mod Numbering
+pub mod Readings
+pub mod Feeding
+pub mod Growing
+pub mod Costing
+pub mod Patterned
+pub mod Listing

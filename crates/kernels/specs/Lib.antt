@@ -1,0 +1,4 @@
+pub mod Blocks
+pub mod Trees
+pub mod Reading
+pub mod Filling
