@@ -11,7 +11,7 @@ use Rattle.grammar.specs.Words.{Word, are_names}
 use Rattle.grammar.specs.Constants.{read_program}
 use Rattle.grammar.specs.Sayable.{fit_end}
 use Rattle.grammar.specs.Written.{write_lines}
-use Rattle.grammar.specs.Texts.{Writing, letters, Reads, Goes_on}
+use Rattle.grammar.specs.Texts.{Writing, letters, Reads, GoesOn}
 use Rattle.grammar.specs.Automaton.{State, stuck, at, start, next, next_flag, run, run_tally, is_stuck, is_lines, between, last, onto, steps_of}
 use Rattle.grammar.specs.declared.symbol.Symbol.{Symbol}
 use Rattle.grammar.proofs.Along.{along, next_letter, checked, flag_code}
@@ -345,8 +345,8 @@ reads_begun u more p r = ⊎_elim now later r.lines
 pub begun_reads : {u : List ℕ} → (b : Begun u) → Reads (u ++ b.more) (read_program b.writing.written)
 begun_reads b = record { writing = b.writing; is = refl; lines = inl b.is }
 
-pub goes_on_run : (t : List ℕ) (i : ℕ) → Goes_on t i → is_stuck (run start (take i t)) ≡ false
+pub goes_on_run : (t : List ℕ) (i : ℕ) → GoesOn t i → is_stuck (run start (take i t)) ≡ false
 goes_on_run t i g = reads_begun (take i t) g.more g.program g.reads
 
-pub run_goes_on : (t : List ℕ) (i : ℕ) → is_stuck (run start (take i t)) ≡ false → Goes_on t i
+pub run_goes_on : (t : List ℕ) (i : ℕ) → is_stuck (run start (take i t)) ≡ false → GoesOn t i
 run_goes_on t i h = let b = run_begun (take i t) h in record { program = read_program b.writing.written; more = b.more; reads = begun_reads b }

@@ -169,6 +169,15 @@ pub record LinesAdd (ms : List Word) (p : Program (List ℕ)) (r : List Letter) 
   pub marks : marks_along (write_lines ms p r) ≡ marks_of p + marks_along r
   pub high : (l : ℕ) → peak_along l (write_lines ms p r) ≡ max (l + depth_of p) (peak_along l r)
 
+-- the highest of an again, with d levels inside of it, and of p levels and height r behind it
+peak_again : (i d p r : ℕ) → max i (max (suc i + d) (max (suc i) (max (i + p) r))) ≡ max (i + max (suc d) p) r
+peak_again i d p r = begin_low (max (suc i) (max (i + p) r)) ∙ end_low (max (i + p) r) ∙ omega arith
+  where
+    begin_low : (m : ℕ) → max i (max (suc i + d) m) ≡ max (suc i + d) m
+    begin_low m = omega arith
+    end_low : (n : ℕ) → max (suc i + d) (max (suc i) n) ≡ max (suc i + d) n
+    end_low n = omega arith
+
 -- an again: its first byte, its lines, and its end
 again_add : (ms : List Word) (r : List Letter) (k : ℕ) (b p : Program (List ℕ)) → Adds (plains (codes "gain ") (write_number k (plain 10 ∷ write_lines ms b (flagged closes (codes "end") (plain 10 ∷ write_lines ms p r))))) (write_lines ms b (flagged closes (codes "end") (plain 10 ∷ write_lines ms p r))) 0 → Adds (plains (codes "nd") (plain 10 ∷ write_lines ms p r)) (write_lines ms p r) 0
     → marks_along (write_lines ms b (flagged closes (codes "end") (plain 10 ∷ write_lines ms p r))) ≡ marks_of b + marks_along (flagged closes (codes "end") (plain 10 ∷ write_lines ms p r))
@@ -181,11 +190,8 @@ again_add ms r k b p g e bm bh pm ph =
     record {
       marks = omega arith;
       high = λ i.
-          let x = g.flat (suc i) in
-          let y = bh (suc i) in
           let z : peak_along (suc i - 1) (plains (codes "nd") (plain 10 ∷ write_lines ms p r)) ≡ peak_along i (write_lines ms p r) = ap (λ j. peak_along j (plains (codes "nd") (plain 10 ∷ write_lines ms p r))) (omega arith) ∙ e.flat i in
-          let w = ph i in
-          omega arith;
+          ap (λ n. max i n) (g.flat (suc i) ∙ bh (suc i) ∙ ap (λ n. max (suc i + depth_of b) (max (suc i) n)) (z ∙ ph i)) ∙ peak_again i (depth_of b) (depth_of p) (peak_along i r);
     }
 
 module _ (ms : List Word) (are : are_names ms ≡ true) where

@@ -7,7 +7,7 @@ use Rattle.semantics.specs.Programs.{Program}
 use Rattle.program.specs.declared.step.Step.{Step}
 use Rattle.program.specs.Spelling.{spell_program}
 use Rattle.grammar.specs.Letters.{Flag, inside, begins, opens, closes, Letter, letter, bytes, Tally, nothing, tally_flag, tally}
-use Rattle.grammar.specs.Texts.{Writing, letters, Reads, Goes_on, Passes, many, deep, BeginsOver, Stops, wrong, short, NoProgram, TooMuch, long, over, Verdict, taken, no_program, too_much, Judged, is_taken, is_no_program, is_too_much}
+use Rattle.grammar.specs.Texts.{Writing, letters, Reads, GoesOn, Passes, many, deep, BeginsOver, Stops, wrong, short, NoProgram, TooMuch, long, over, Verdict, taken, no_program, too_much, Judged, is_taken, is_no_program, is_too_much}
 use Rattle.grammar.specs.Automaton.{State, start, next, next_flag, run, run_tally, is_stuck, between, last, steps_of, Answer, took, refused_7, refused_8, too_much_in, judge, answer_to, answer_of}
 use Rattle.grammar.proofs.EndsBack.{append_nil}
 use Rattle.grammar.proofs.Back.{pick_told}
@@ -54,12 +54,12 @@ take_less (suc i) (b ∷ t) more h = ap {B = List ℕ} (λ y. b ∷ y) (take_les
 unfoldable pub counted : List ℕ → Tally
 counted u = run_tally start nothing u
 
-goes_on_less : (t : List ℕ) (i j : ℕ) → i ≤ j → Goes_on t j → Goes_on t i
+goes_on_less : (t : List ℕ) (i j : ℕ) → i ≤ j → GoesOn t j → GoesOn t i
 goes_on_less t i j h g =
     let k = take_split i j t h in
     run_goes_on t i (stuck_before (take i t) start k.0 (subst (λ x. is_stuck (run start x) ≡ false) k.1 (goes_on_run t j g)))
 
-pub reads_goes_on : (t : List ℕ) (p : Program ℕ) (i : ℕ) → Reads t p → Goes_on t i
+pub reads_goes_on : (t : List ℕ) (p : Program ℕ) (i : ℕ) → Reads t p → GoesOn t i
 reads_goes_on t p i r =
     let k = take_all i t in
     run_goes_on t i (reads_begun (take i t) k.0 p (subst (λ x. Reads x p) k.1 r))
@@ -153,7 +153,7 @@ module _ {t u r : List ℕ} (h : Fine t u r) where
   fine_front : take (length u) t ≡ u
   fine_front = ap (take (length u)) h.whole ∙ take_front u r
 
-  fine_goes : Goes_on t (length u)
+  fine_goes : GoesOn t (length u)
   fine_goes = run_goes_on t (length u) (subst (λ x. is_stuck (run start x) ≡ false) (sym fine_front) h.free)
 
   -- nothing is too much, nor wrong, before
@@ -227,7 +227,7 @@ module _ {t u r : List ℕ} {b : ℕ} (h : Fine t u (b ∷ r)) where
         is = refl;
       }
     where
-      none_goes : Goes_on t (suc (length u)) → ⊥
+      none_goes : GoesOn t (suc (length u)) → ⊥
       none_goes g = both_ways (is_stuck (next (run start u) b)) (subst (λ x. is_stuck x ≡ false) one_run (goes_on_run t (suc (length u)) g)) s
 
       none_over : (j : ℕ) → j ≤ length u → TooMuch t j → ⊥

@@ -7,7 +7,7 @@ use Rattle.grammar.specs.Letters.{Flag, inside, begins, opens, closes, Letter, l
 use Rattle.grammar.specs.Words.{Word, begins_some, binary_word, binaries}
 use Rattle.grammar.specs.Constants.{read_program}
 use Rattle.grammar.specs.Limits.{marks_of, depth_of}
-use Rattle.grammar.specs.Texts.{Writing, letters, Reads, Goes_on, TooMuch, Passes, over, taken, Judged, is_taken}
+use Rattle.grammar.specs.Texts.{Writing, letters, Reads, GoesOn, TooMuch, Passes, over, taken, Judged, is_taken}
 use Rattle.grammar.specs.Moves.{Move, stop, move, moves, when, push, viable, viable_name}
 use Rattle.grammar.specs.Automaton.{State, stuck, at, start, settle, top_move, move_flag, next, next_flag, run, run_tally, is_stuck, too_much_in}
 use Rattle.grammar.specs.declared.symbol.Symbol.{Symbol}

@@ -5,7 +5,7 @@ use Rattle.program.specs.Spelling.{spell_program}
 use Rattle.grammar.specs.Letters.{Letter, bytes, nothing, tally}
 use Rattle.grammar.specs.Sayable.{FitLines, Canonical}
 use Rattle.grammar.specs.Limits.{marks_of, depth_of}
-use Rattle.grammar.specs.Texts.{Writing, letters, Reads, Goes_on, Verdict, taken, Judged}
+use Rattle.grammar.specs.Texts.{Writing, letters, Reads, GoesOn, Verdict, taken, Judged}
 use Rattle.grammar.specs.Automaton.{start, run, run_tally, is_stuck, between, last, steps_of, answer_to, answer_of}
 
 -- a text is one program at most
@@ -27,7 +27,7 @@ TakenAreTexts = (t : List ℕ) → between (last (run start t)) ≡ true → (p 
 
 -- it is stuck just where no program goes on so
 abbrev pub StuckWhere : Type 0
-StuckWhere = (t : List ℕ) (i : ℕ) → (Goes_on t i → is_stuck (run start (take i t)) ≡ false) × (is_stuck (run start (take i t)) ≡ false → Goes_on t i)
+StuckWhere = (t : List ℕ) (i : ℕ) → (GoesOn t i → is_stuck (run start (take i t)) ≡ false) × (is_stuck (run start (take i t)) ≡ false → GoesOn t i)
 
 -- it counts the marks and levels of every program that is written so
 abbrev pub CountsMarks : Type 0

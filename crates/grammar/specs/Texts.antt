@@ -28,7 +28,7 @@ pub record Reads (t : List ℕ) (p : Program ℕ) : Type 0 where
   pub lines : (bytes (letters writing) ≡ t) ⊎ (bytes (letters writing) ≡ t ++ 10 ∷ [])
 
 -- some program's text begins with the first i bytes of t
-pub record Goes_on (t : List ℕ) (i : ℕ) : Type 0 where
+pub record GoesOn (t : List ℕ) (i : ℕ) : Type 0 where
   pub program : Program ℕ
   pub more : List ℕ
   pub reads : Reads (take i t ++ more) program
@@ -48,11 +48,11 @@ pub record BeginsOver (t : List ℕ) (i : ℕ) : Type 0 where
 
 -- no program at i: one goes on so up to byte i, and none with it, or the text stops too soon
 pub data Stops (t : List ℕ) (i : ℕ) : Type 0 where
-  wrong : i < length t → (Goes_on t (suc i) → ⊥) → Stops t i
+  wrong : i < length t → (GoesOn t (suc i) → ⊥) → Stops t i
   short : i ≡ length t → ((p : Program ℕ) → Reads t p → ⊥) → Stops t i
 
 pub record NoProgram (t : List ℕ) (i : ℕ) : Type 0 where
-  pub goes : Goes_on t i
+  pub goes : GoesOn t i
   pub stops : Stops t i
 
 -- too much at i: too many bytes, too many marks, or an again too deep

@@ -1,7 +1,7 @@
 -- Every operation writes a value that the format holds, and what is written so is a pattern.
 use Rattle.std.proofs.Common.{◌≡◌, ℕ, zero, suc, ◌^◌, ◌<◌, Bool, true, false, cond, not, T, pos, sym, refl, ap, ◌∙◌, subst, lit<}
 use lib.Ieee.{Float, nan, inf, fin, binary64, fits, is_nan, nan_bits, to_bits, lt, of_int}
-use lib.Ieee.Fits.{nan-fits, inf-fits, round-fits, cond-fits, neg-fits, add-fits, sub-fits, mul-fits, div-fits, of_int-fits}
+use lib.Ieee.Fits.{nan-fits, inf-fits, round-fits, cond-fits, neg-fits, add-fits, sub-fits, mul-fits, div-fits, sqrt-fits, of_int-fits}
 use lib.Ieee.Bits.{of_bits-to_bits, to_bits-lt, of_bits-fits, to_bits-of_bits, nan_bits_is}
 use Rattle.std.specs.Float as Floats
 use Rattle.semantics.specs.declared.operation.Unary.{Unary}
@@ -73,13 +73,7 @@ abs_fits (fin s zero e) h = h
 abs_fits (fin s (suc m) e) h = h
 
 pub sqrt_fits : (v : Float) → T (fits binary64 v) → T (fits binary64 (Floats.sqrt binary64 v))
-unfolding fits Floats.sqrt
-sqrt_fits nan h = tt
-sqrt_fits (inf true) h = tt
-sqrt_fits (inf false) h = tt
-sqrt_fits (fin s zero e) h = h
-sqrt_fits (fin true (suc m) e) h = tt
-sqrt_fits (fin false (suc m) e) h = round-fits binary64 false _ _
+sqrt_fits v h = sqrt-fits binary64 v
 
 pub floor_fits : (v : Float) → T (fits binary64 (Floats.floor binary64 v))
 unfolding Floats.round_with

@@ -1,6 +1,6 @@
 -- Looking for a word in a table, one entry after the other.
 use Rattle.std.proofs.Common.{◌≡◌, ℕ, suc, ◌+◌, ◌-◌, ◌<◌, ◌≤◌, Bool, true, false, ◌&&◌, ◌||◌, eqb, ltb, List, [], ◌∷◌, length, get_or, take, drop, Some, None, Decides, sym, refl, ap, ◌∙◌, arith}
-use Rattle.std.specs.Cmp.Lexicographic.{Matches}
+use lib.Pointwise.{pointwise}
 use Rattle.std.proofs.lemmas.List.{at_drop_more, at_drop_all, take_all}
 use Rattle.std.proofs.lemmas.Bool.{le-ltb, lt-ltb, and_right}
 use Rattle.std.proofs.lemmas.Bool.Decides.{same_from_decides, Decides-eqb}
@@ -13,7 +13,7 @@ unfolding same_word
 compares = record { empty = refl; shorter = λ y ys. refl; longer = λ x xs. refl; heads = λ x y xs ys. refl }
 
 -- `==` on bytes
-pub same_is : (xs ys : Word) (r : Bool) → Matches (λ (a b : ℕ) (t : Bool). Decides t (a ≡ b)) xs ys r → r ≡ same_word xs ys
+pub same_is : (xs ys : Word) (r : Bool) → r ≡ pointwise eqb xs ys → r ≡ same_word xs ys
 same_is xs ys r h = same_from_decides r (same_word xs ys) (slice_eq-Decides Decides-eqb xs ys r h) (compares_Decides same_word compares xs ys)
 
 begins_by_same : (u w : Word) → begins_word u w ≡ same_word u (take (length u) w)
@@ -22,7 +22,7 @@ begins_by_same [] w = refl
 begins_by_same (b ∷ u) [] = refl
 begins_by_same (b ∷ u) (c ∷ w) = ap (λ t. eqb b c && t) (begins_by_same u w)
 
-pub begins_is : (u w : Word) (r : Bool) → Matches (λ (a b : ℕ) (t : Bool). Decides t (a ≡ b)) u (take (length u) w) r → r ≡ begins_word u w
+pub begins_is : (u w : Word) (r : Bool) → r ≡ pointwise eqb u (take (length u) w) → r ≡ begins_word u w
 begins_is u w r h = same_is u (take (length u) w) r h ∙ sym (begins_by_same u w)
 
 module _ {A : Type 0} (spelled : A → Word) (xs : List A) (w : Word) where

@@ -1,5 +1,5 @@
 // A text judged: its steps, or why and where it is refused.
-pub(crate) mod reading;
+pub mod reading;
 
 #[derive(Clone, Copy)]
 pub enum Verdict {

@@ -10,7 +10,7 @@ use program::step::Step;
 use program::words::put_step;
 
 // Stores the first steps and their places, from the first word on.
-fn write_steps(words: &mut [u32], steps: &[Step], places: &[u32], n: usize)
+pub fn write_steps(words: &mut [u32], steps: &[Step], places: &[u32], n: usize)
     requires steps_long { n ≤ length steps.now }
     requires places_long { n ≤ length places.now }
     requires room { 5 * n ≤ length words.old }

@@ -54,7 +54,7 @@ fn show(rt: &HostRuntime, outcome: &Outcome, room: usize) -> anyhow::Result<()> 
 // Runs the program that the command line names, and prints what it shows.
 pub fn serve(rt: &HostRuntime, usage: &str) -> anyhow::Result<()> {
     let Some(options) = read_options(rt)? else {
-        return Err(usage.into());
+        return Err(anyhow!("{usage}"));
     };
     let text = read_file(rt, options.program.as_str())?;
     let inputs = read_files(rt, &options.inputs)?;

@@ -28,8 +28,8 @@ pub trait Source {
 // The array of a shape whose numbers the source gives.
 pub fn tabulate<S: Source>(heap: Global, shape: Shape, source: &S) -> Result<Array, AllocError>
     requires small { size (shape_of shape) ≤ 2 ^ 26 }
-    requires sourced { (is : List ℕ) → In (shape_of shape) is → ready source.now is }
-    ensures { IfOk result (λ a. Alike (array_of a) (array_with (shape_of shape) (at source.now))) }
+    requires sourced { (is : List ℕ) → In (shape_of shape) is → S.ready source.now is }
+    ensures { IfOk result (λ a. Alike (array_of a) (array_with (shape_of shape) (S.at source.now))) }
 {
     let count = shape.size() as usize;
     let mut numbers = Vec::new(heap);

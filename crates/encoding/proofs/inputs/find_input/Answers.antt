@@ -33,17 +33,17 @@ pub loop-k-init : goal.loop-k-init
 loop-k-init c = offsets_is c.args.bytes.now
 
 pub loop-k-preserved : goal.loop-k-preserved
-loop-k-preserved c = next c.args.bytes.now c.loop-k.-k c.loop-k.at c.loop-k.invariant c.in-Ok.head c.in-Ok.ensures
+loop-k-preserved c = next c.args.bytes.now c.loop-k._k c.loop-k.at c.loop-k.invariant c.in-Ok.head c.in-Ok.ensures
 
 pub returns-in_default : goal.returns-in_default
 returns-in_default c =
-    let few = none c.args.bytes.now c.loop-k.-k c.loop-k.at c.loop-k.invariant c.in_default.field-0 c.in_default.ensures in omega arith
+    let few = none c.args.bytes.now c.loop-k._k c.loop-k.at c.loop-k.invariant c.in_default.field-0 c.in_default.ensures in omega arith
 
 pub returns-in-Ok-header_at : goal.returns-in-Ok-header_at
 returns-in-Ok-header_at c =
-    let all : c.loop-k.-k ≡ c.args.index = omega arith in
-    subst (λ k. Found c.args.bytes.now k c.in-Ok-header_at.head) all (found c.args.bytes.now c.loop-k.-k c.loop-k.at c.loop-k.invariant c.in-Ok-header_at.head c.in-Ok-header_at.ensures)
+    let all : c.loop-k._k ≡ c.args.index = omega arith in
+    subst (λ k. Found c.args.bytes.now k c.in-Ok-header_at.head) all (found c.args.bytes.now c.loop-k._k c.loop-k.at c.loop-k.invariant c.in-Ok-header_at.head c.in-Ok-header_at.ensures)
 
 pub returns-in-Err : goal.returns-in-Err
 returns-in-Err c =
-    let few = none c.args.bytes.now c.loop-k.-k c.loop-k.at c.loop-k.invariant c.in-Err.field-0 c.in-Err.ensures in omega arith
+    let few = none c.args.bytes.now c.loop-k._k c.loop-k.at c.loop-k.invariant c.in-Err.field-0 c.in-Err.ensures in omega arith

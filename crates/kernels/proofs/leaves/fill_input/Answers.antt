@@ -12,8 +12,8 @@ use Rattle.kernels.proofs.leaves.fill_input.Goals as goal
 pub unreachable-requires : goal.unreachable-requires
 unreachable-requires c = input_not c.args.bytes.now c.args.input c.in_default.ensures c.requires.ready.leaf
 
-pub of_input-view-requires : goal.of_input-view-requires
-of_input-view-requires c =
+pub of_input-requires : goal.of_input-requires
+of_input-requires c =
     let f = c.in-Some.ensures in
     let bs = c.args.bytes.now in
     let at = get_or (offsets bs) c.args.input 0 in
@@ -26,7 +26,7 @@ fill_broadcast-requires c =
     let f = c.in-Some.ensures in
     let bs = c.args.bytes.now in
     let at = get_or (offsets bs) c.args.input 0 in
-    let h = c.of_input-view.ensures.holds c.args.area.now bs at f.heads in
+    let h = c.of_input.ensures.holds c.args.area.now bs at f.heads in
     let l = cell_leaf (array_at bs at) (input_there bs c.args.input f.there) c.requires.ready.leaf in
     record {
       good = h.good;
@@ -41,5 +41,5 @@ returns c =
     let f = c.in-Some.ensures in
     let bs = c.args.bytes.now in
     let at = get_or (offsets bs) c.args.input 0 in
-    let h = c.of_input-view.ensures.holds c.args.area.now bs at f.heads in
+    let h = c.of_input.ensures.holds c.args.area.now bs at f.heads in
     subst (CellFilled (shape_of c.args.shape) c.args.first c.fill_broadcast.new.out) (sym (input_there bs c.args.input f.there)) (c.fill_broadcast.ensures (array_at bs at) h)

@@ -18,7 +18,7 @@ loop-k-init c =
     (subst (λ s. n < size s) (sym all) c.requires, sym (ap₂ (λ s v. unflat s n ++ v) all none ∙ append-nil (unflat w n)), refl)
 
 -- the last of the axes that are left
-axes : (c : goal.After-len·1) → take c.loop-k.k (shape_of c.args.shape) ≡ take (c.loop-k.k - 1) (shape_of c.args.shape) ++ get_or c.args.shape.lens (c.loop-k.k - 1) 0 ∷ []
+axes : (c : goal.After-len-1) → take c.loop-k.k (shape_of c.args.shape) ≡ take (c.loop-k.k - 1) (shape_of c.args.shape) ++ get_or c.args.shape.lens (c.loop-k.k - 1) 0 ∷ []
 axes c =
     let w = shape_of c.args.shape in
     let p = c.loop-k.k - 1 in
@@ -28,7 +28,7 @@ axes c =
     let long = length-take-le r c.args.shape.lens (omega arith) in
     ap (λ k. take k w) (sym next) ∙ (take_more w p 0 (omega arith) ∙ ap (λ d. take p w ++ d ∷ []) (get_or-take r c.args.shape.lens p 0 low))
 
-below : (c : goal.After-len·1) → c.loop-k.rest < size (take (c.loop-k.k - 1) (shape_of c.args.shape) ++ get_or c.args.shape.lens (c.loop-k.k - 1) 0 ∷ [])
+below : (c : goal.After-len-1) → c.loop-k.rest < size (take (c.loop-k.k - 1) (shape_of c.args.shape) ++ get_or c.args.shape.lens (c.loop-k.k - 1) 0 ∷ [])
 below c = subst (λ s. c.loop-k.rest < size s) (axes c) c.loop-k.invariant.0
 
 pub nonzero_rem-place : goal.nonzero_rem-place

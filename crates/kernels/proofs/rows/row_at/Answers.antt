@@ -20,7 +20,7 @@ address_of-from-requires c =
       there = in_inside (subst (Inside w) (sym (ap (λ n. take n c.place_of-place.result) whole ∙ c.place_of-place.ensures)) (inside_unflat w c.args.number c.requires.there));
     }
 
-axes : (c : goal.After-result·1) → shape_of c.args.view.now.shape ≡ take (c.args.view.now.shape.rank - 1) (shape_of c.args.view.now.shape) ++ get_or c.args.view.now.shape.lens (c.args.view.now.shape.rank - 1) 0 ∷ []
+axes : (c : goal.After-result-1) → shape_of c.args.view.now.shape ≡ take (c.args.view.now.shape.rank - 1) (shape_of c.args.view.now.shape) ++ get_or c.args.view.now.shape.lens (c.args.view.now.shape.rank - 1) 0 ∷ []
 axes c =
     let s = c.args.view.now.shape in
     let w = shape_of s in
@@ -28,7 +28,7 @@ axes c =
     let low : s.rank - 1 < s.rank = omega arith in
     last_axis w s.rank (length-take-le s.rank s.lens (omega arith)) some ∙ ap (λ d. take (s.rank - 1) w ++ d ∷ []) (get_or-take s.rank s.lens (s.rank - 1) 0 low)
 
-below : (c : goal.After-result·1) → c.args.number < size (take (c.args.view.now.shape.rank - 1) (shape_of c.args.view.now.shape) ++ get_or c.args.view.now.shape.lens (c.args.view.now.shape.rank - 1) 0 ∷ [])
+below : (c : goal.After-result-1) → c.args.number < size (take (c.args.view.now.shape.rank - 1) (shape_of c.args.view.now.shape) ++ get_or c.args.view.now.shape.lens (c.args.view.now.shape.rank - 1) 0 ∷ [])
 below c = subst (λ s. c.args.number < size s) (axes c) c.requires.there
 
 pub nonzero_rem-result : goal.nonzero_rem-result

@@ -11,7 +11,7 @@ returns-in_default-step c =
 
 pub loop-step-preserved : goal.loop-step-preserved
 loop-step-preserved c =
-    reading_item c.args.words.now c.args.node c.loop-step.at c.in-Some.step c.in-Some.ensures (vec_items c.loop-step.list) (vec_items c.push.new.self) c.in-Item.is c.in_ok-push.ensures.items c.loop-step.invariant
+    reading_item c.args.words.now c.args.node c.loop-step.at c.in-Some.step c.in-Some.ensures (vec_items c.loop-step.list) (vec_items c.push.new.self) c.in-Item.is c.in_ok-push-in-Item.ensures.items c.loop-step.invariant
 
 pub returns : goal.returns
 returns c = read_all_items c.args.words.now c.args.node c.loop-step.at (vec_items c.loop-step.list) c.in_default.ensures c.loop-step.invariant

@@ -15,7 +15,7 @@ returns-in_default-found c =
 pub loop-found-preserved : goal.loop-found-preserved
 loop-found-preserved c =
     let s : Slice = record { from = c.in-Slice.from; backward = c.in-Slice.backward; step = c.in-Slice.step; many = c.in-Slice.many } in
-    reading_slice c.args.words.now c.args.node c.loop-found.at c.in-Some.found c.in-Some.ensures {p = part_of s} (parts_of (vec_items c.loop-found.list)) (parts_of (vec_items c.push.new.self)) c.in-Slice.is (ap parts_of c.in_ok-push.ensures.items ∙ map-append part_of (vec_items c.loop-found.list) (s ∷ [])) c.loop-found.invariant
+    reading_slice c.args.words.now c.args.node c.loop-found.at c.in-Some.found c.in-Some.ensures {p = part_of s} (parts_of (vec_items c.loop-found.list)) (parts_of (vec_items c.push.new.self)) c.in-Slice.is (ap parts_of c.in_ok-push-in-Slice.ensures.items ∙ map-append part_of (vec_items c.loop-found.list) (s ∷ [])) c.loop-found.invariant
 
 pub returns : goal.returns
 returns c = read_all_slices c.args.words.now c.args.node c.loop-found.at (parts_of (vec_items c.loop-found.list)) c.in_default.ensures c.loop-found.invariant

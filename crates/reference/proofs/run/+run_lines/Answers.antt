@@ -27,19 +27,19 @@ run_lines-requires t c =
     let there = line_there c.args.words.now c.loop-step.at c.in-Some.step c.in-Some.ensures in
     (omega (arith, c.decreases, there, c.loop-step.invariant.further), (again_body c.args.words.now c.loop-step.at c.in-Some.step c.in-Some.ensures c.in-Again.is c.loop-step.invariant.runs, (c.requires.small, c.loop-i.invariant.fits)))
 
-pub returns-in_err-run_lines : goal.returns-in_err-run_lines
-returns-in_err-run_lines t c =
-    let h = c.in_err-run_lines.ensures in
+pub returns-in_err-run_lines-in-Again : goal.returns-in_err-run_lines-in-Again
+returns-in_err-run_lines-in-Again t c =
+    let h = c.in_err-run_lines-in-Again.ensures in
     record {
       fits = h.fits;
-      lines = lines_exit c.args.words.now c.args.inputs.now c.args.places c.args.node c.args.state.now c.run_lines.new.state c.from-residual.result c.in_err-run_lines.field-0.0 c.from-residual.ensures.1
-          (lines_then_run c.args.words.now c.args.inputs.now c.args.places c.args.node c.loop-step.at c.args.state.now c.loop-step.state c.loop-step.invariant c.run_lines.new.state (Err c.in_err-run_lines.field-0.0) (rounds_stop c.args.words.now c.args.inputs.now c.args.places c.loop-step.at c.loop-step.at c.in-Again.count c.loop-step.state c.in-Some.step c.in-Some.ensures c.in-Again.is c.loop-i.i c.loop-i.state c.run_lines.new.state c.in_err-run_lines.field-0.0 c.loop-i-test.true c.loop-i.invariant h.lines));
+      lines = lines_exit c.args.words.now c.args.inputs.now c.args.places c.args.node c.args.state.now c.run_lines.new.state c.from_residual.result c.in_err-run_lines-in-Again.field-0.0 c.from_residual.ensures.1
+          (lines_then_run c.args.words.now c.args.inputs.now c.args.places c.args.node c.loop-step.at c.args.state.now c.loop-step.state c.loop-step.invariant c.run_lines.new.state (Err c.in_err-run_lines-in-Again.field-0.0) (rounds_stop c.args.words.now c.args.inputs.now c.args.places c.loop-step.at c.loop-step.at c.in-Again.count c.loop-step.state c.in-Some.step c.in-Some.ensures c.in-Again.is c.loop-i.i c.loop-i.state c.run_lines.new.state c.in_err-run_lines-in-Again.field-0.0 c.loop-i-test.true c.loop-i.invariant h.lines));
     }
 
 pub loop-i-preserved : goal.loop-i-preserved
 loop-i-preserved t c =
-    let h = c.in_ok-run_lines.ensures in
-    rounds_more c.args.words.now c.args.inputs.now c.args.places c.loop-step.at c.loop-step.at c.in-Again.count c.loop-step.state c.in-Some.step c.in-Some.ensures c.in-Again.is c.loop-i.i c.loop-i.state c.run_lines.new.state c.in_ok-run_lines.field-0 c.loop-i-test.true h.fits c.loop-i.invariant h.lines
+    let h = c.in_ok-run_lines-in-Again.ensures in
+    rounds_more c.args.words.now c.args.inputs.now c.args.places c.loop-step.at c.loop-step.at c.in-Again.count c.loop-step.state c.in-Some.step c.in-Some.ensures c.in-Again.is c.loop-i.i c.loop-i.state c.run_lines.new.state c.in_ok-run_lines-in-Again.field-0 c.loop-i-test.true h.fits c.loop-i.invariant h.lines
 
 pub loop-step-preserved-in-Again : goal.loop-step-preserved-in-Again
 loop-step-preserved-in-Again t c =
@@ -52,15 +52,15 @@ pub run_line-requires : goal.run_line-requires
 run_line-requires t c =
     record { runs = c.loop-step.invariant.runs; at = c.in-Some.ensures; plain = plain_other c.in-Some.step c.in_default-step.not-End c.in_default-step.not-Again; small = c.requires.small; fits = c.loop-step.invariant.fits }
 
-pub returns-in_err-at : goal.returns-in_err-at
-returns-in_err-at t c =
-    let h = c.in_err-at.ensures in
+pub returns-in_err-at-in_default-step : goal.returns-in_err-at-in_default-step
+returns-in_err-at-in_default-step t c =
+    let h = c.in_err-at-in_default-step.ensures in
     record {
       fits = h.fits;
-      lines = lines_exit c.args.words.now c.args.inputs.now c.args.places c.args.node c.args.state.now c.run_line.new.state c.from-residual-in_err-at.result c.in_err-at.field-0.0 c.from-residual-in_err-at.ensures.1 (lines_stop c.args.words.now c.args.inputs.now c.args.places c.args.node c.loop-step.at c.args.state.now c.loop-step.state c.loop-step.invariant c.run_line.new.state c.in_err-at.field-0.0 h.lines);
+      lines = lines_exit c.args.words.now c.args.inputs.now c.args.places c.args.node c.args.state.now c.run_line.new.state c.from_residual-in_err-at-in_default-step.result c.in_err-at-in_default-step.field-0.0 c.from_residual-in_err-at-in_default-step.ensures.1 (lines_stop c.args.words.now c.args.inputs.now c.args.places c.args.node c.loop-step.at c.args.state.now c.loop-step.state c.loop-step.invariant c.run_line.new.state c.in_err-at-in_default-step.field-0.0 h.lines);
     }
 
 pub loop-step-preserved : goal.loop-step-preserved
 loop-step-preserved t c =
-    let h = c.in_ok-at.ensures in
-    lines_more c.args.words.now c.args.inputs.now c.args.places c.args.node c.loop-step.at c.args.state.now c.loop-step.state c.loop-step.invariant c.run_line.new.state c.in_ok-at.at h.fits h.lines
+    let h = c.in_ok-at-in_default-step.ensures in
+    lines_more c.args.words.now c.args.inputs.now c.args.places c.args.node c.loop-step.at c.args.state.now c.loop-step.state c.loop-step.invariant c.run_line.new.state c.in_ok-at-in_default-step.at h.fits h.lines

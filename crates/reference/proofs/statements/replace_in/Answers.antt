@@ -10,7 +10,7 @@ use Rattle.reference.proofs.statements.replace_in.Goals as goal
 
 pub returns-in_err-v : goal.returns-in_err-v
 returns-in_err-v c k =
-    replaces_exit c.args.words.now c.args.inputs.now c.args.names.now c.args.node c.args.places (parts_of c.args.list.now) c.from-residual.result k (Holds c.args.old.now) c.in_err-v.field-0.0 c.from-residual.ensures.1
+    replaces_exit c.args.words.now c.args.inputs.now c.args.names.now c.args.node c.args.places (parts_of c.args.list.now) c.from_residual.result k (Holds c.args.old.now) c.in_err-v.field-0.0 c.from_residual.ensures.1
     (record { small = tt; skips = tt; right = λ e s t d h l m. replace_stop t k (parts_of c.args.list.now) c.args.old.now m (c.in_err-v.ensures.right e s t h l) })
 
 pub returns-then-not-slices_fit : goal.returns-then-not-slices_fit

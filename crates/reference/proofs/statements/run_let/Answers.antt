@@ -8,8 +8,8 @@ pub returns-in_err-v : goal.returns-in_err-v
 returns-in_err-v c =
     record {
       fits = c.requires.fits;
-      skips = IfOk-from_err _ _ c.from-residual.ensures.0;
-      right = λ e s t h l. went_exit _ _ c.from-residual.result c.in_err-v.field-0.0 c.from-residual.ensures.1 (let_stop c.args.places t c.args.state.now l c.args.name (c.in_err-v.ensures.right e s t h l.names));
+      skips = IfOk-from_err _ _ c.from_residual.ensures.0;
+      right = λ e s t h l. went_exit _ _ c.from_residual.result c.in_err-v.field-0.0 c.from_residual.ensures.1 (let_stop c.args.places t c.args.state.now l c.args.name (c.in_err-v.ensures.right e s t h l.names));
     }
 
 pub returns-then-not-put_cell : goal.returns-then-not-put_cell

@@ -26,12 +26,12 @@ pub returns-in_err-v : goal.returns-in_err-v
 returns-in_err-v c =
     record {
       fits = c.requires.fits;
-      skips = IfOk-from_err _ _ c.from-residual.ensures.0;
+      skips = IfOk-from_err _ _ c.from_residual.ensures.0;
       right = λ ps e s t h l.
           let is = ap parts_of c.as_slice.ensures.value ∙ c.in-Ok.ensures.on ps e s h in
           let r = c.in_err-v.ensures.right e s t (c.skip_brackets-operand.ensures.past_slices ps e s h) l.names in
           let V = value_in (sizes c.args.places) binary64 (inputs_of c.args.inputs.now) t e in
-          went_exit _ _ c.from-residual.result c.in_err-v.field-0.0 c.from-residual.ensures.1
+          went_exit _ _ c.from_residual.result c.in_err-v.field-0.0 c.from_residual.ensures.1
           (put_stop t c.args.state.now l c.args.name (since_is_put t c.args.name ps _ _) (subst (λ qs. Replaces t (is_put t c.args.name qs (get_or t.names c.args.name none) V) c.args.name (Err c.in_err-v.field-0.0)) is r));
     }
 

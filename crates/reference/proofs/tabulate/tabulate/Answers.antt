@@ -26,7 +26,7 @@ loop-n-preserved g c =
     )
 
 pub invariant_of-result : goal.invariant_of-result
-invariant_of-result g c = (omega (arith, c.loop-n.invariant.0), tt)
+invariant_of-result g c = record { full = omega (arith, c.loop-n.invariant.0) }
 
 pub returns : goal.returns
 unfolding Alike

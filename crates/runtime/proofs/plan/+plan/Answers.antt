@@ -41,7 +41,7 @@ plan-requires t c =
 
 pub returns-in_err-a : goal.returns-in_err-a
 returns-in_err-a t c =
-    plan_exit c.args.words.now c.args.inputs.now c.args.names.now c.args.node c.args.left c.from-residual.result c.in_err-a.field-0.0 c.from-residual.ensures.1
+    plan_exit c.args.words.now c.args.inputs.now c.args.names.now c.args.node c.args.left c.from_residual.result c.in_err-a.field-0.0 c.from_residual.ensures.1
     (each_stop_at c.args.words.now c.args.inputs.now c.args.names.now c.args.node c.args.left c.in-Some.step c.in-Some.ensures c.in-Each.is c.in_err-a.ensures)
 
 pub returns-in_ok-a : goal.returns-in_ok-a
@@ -56,7 +56,7 @@ plan-requires-in-Both t c =
 
 pub returns-in_err-a-2 : goal.returns-in_err-a-2
 returns-in_err-a-2 t c =
-    plan_exit c.args.words.now c.args.inputs.now c.args.names.now c.args.node c.args.left c.from-residual-in_err-a-2.result c.in_err-a-2.field-0.0 c.from-residual-in_err-a-2.ensures.1
+    plan_exit c.args.words.now c.args.inputs.now c.args.names.now c.args.node c.args.left c.from_residual-in_err-a-2.result c.in_err-a-2.field-0.0 c.from_residual-in_err-a-2.ensures.1
     (both_stop_at c.args.words.now c.args.inputs.now c.args.names.now c.args.node c.args.left c.in-Some.step c.in-Some.ensures c.in-Both.is c.in_err-a-2.ensures)
 
 pub plan-requires-in-Both-2 : goal.plan-requires-in-Both-2
@@ -71,7 +71,7 @@ plan-requires-in-Both-2 t c =
 
 pub returns-in_err-b : goal.returns-in_err-b
 returns-in_err-b t c =
-    plan_exit c.args.words.now c.args.inputs.now c.args.names.now c.args.node c.args.left c.from-residual-in_err-b.result c.in_err-b.field-0.0 c.from-residual-in_err-b.ensures.1
+    plan_exit c.args.words.now c.args.inputs.now c.args.names.now c.args.node c.args.left c.from_residual-in_err-b.result c.in_err-b.field-0.0 c.from_residual-in_err-b.ensures.1
     (both_stop_second_at c.args.words.now c.args.inputs.now c.args.names.now c.args.node c.args.left c.in-Some.step c.in-Some.ensures c.in-Both.is c.in_ok-a-2.ensures c.in_err-b.ensures)
 
 pub returns-then-not-can_broadcast : goal.returns-then-not-can_broadcast

@@ -9,9 +9,9 @@ pub returns-in_err-planned : goal.returns-in_err-planned
 returns-in_err-planned c =
     record {
       keeps = c.requires.keeps;
-      skips = IfOk-from_err _ _ c.from-residual.ensures.0;
+      skips = IfOk-from_err _ _ c.from_residual.ensures.0;
       right = λ e t u enc st.
-          let_exit c.from-residual.result c.in_err-planned.field-0.0 c.from-residual.ensures.1
+          let_exit c.from_residual.result c.in_err-planned.field-0.0 c.from_residual.ensures.1
           (plan_let_stop c.args.words.now c.args.node c.requires.runnable c.args.area.now c.args.inputs.now c.args.memory.now c.requires.keeps.counted _ refl e t enc u st c.args.name c.args.area.now c.args.memory.now.names c.in_err-planned.ensures);
     }
 

@@ -7,9 +7,9 @@ use Rattle.runtime.proofs.statements.run_show.Goals as goal
 pub returns-in_err-planned : goal.returns-in_err-planned
 returns-in_err-planned c =
     record {
-      skips = IfOk-from_err _ _ c.from-residual.ensures.0;
+      skips = IfOk-from_err _ _ c.from_residual.ensures.0;
       right = λ e t u enc st.
-          show_exit u _ c.args.shown c.args.room.now c.args.room.now c.from-residual.result c.in_err-planned.field-0.0 c.from-residual.ensures.1
+          show_exit u _ c.args.shown c.args.room.now c.args.room.now c.from_residual.result c.in_err-planned.field-0.0 c.from_residual.ensures.1
           (plan_show_stop c.args.words.now c.args.node c.requires.runnable c.args.area.now c.args.inputs.now c.args.memory.now c.requires.keeps.counted _ refl e t enc u st c.args.shown c.args.room.now c.in_err-planned.ensures);
     }
 

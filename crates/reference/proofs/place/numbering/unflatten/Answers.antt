@@ -3,7 +3,7 @@ use Rattle.semantics.specs.Shapes.{size, unflat}
 use Rattle.reference.proofs.Numbering.{length_some, rest_below, unflat_more, unflat_all}
 use Rattle.reference.proofs.place.numbering.unflatten.Goals as goal
 
-len_some : (c : goal.After-len·1) → 0 < get_or c.args.shape.now.lens (c.loop-k.k - 1) 0
+len_some : (c : goal.After-len-1) → 0 < get_or c.args.shape.now.lens (c.loop-k.k - 1) 0
 len_some c =
     length_some c.args.shape.now.lens c.loop-k.indices c.args.shape.now.rank (c.loop-k.k - 1) c.loop-k.k c.args.number c.loop-k.rest (omega arith) (omega arith) (omega arith) (omega arith) c.loop-k.invariant.1
 
