@@ -39,7 +39,7 @@ fn lend(rt: &HostRuntime, options: &Options) -> Result<Lent, AllocError> {
 // Whether the program ran to its end; what is wrong otherwise has been said.
 fn serve(rt: &HostRuntime) -> anyhow::Result<bool> {
     let Some(options) = read_options(rt)? else {
-        return Err(USAGE.into());
+        return Err(anyhow!("{USAGE}"));
     };
     let text = read_file(rt, options.program.as_str())?;
     let inputs = read_files(rt, &options.inputs)?;

@@ -3,7 +3,7 @@ ghost use Rattle.std.specs.Prelude.{◌≡◌};
 ghost use Rattle.numbers.specs.Binary64.{flag, less_bits, same_bits, least_bits, most_bits, not_bits};
 ghost use Rattle.numbers.specs.Operations.{binary64};
 
-use std::num::{f64_from_bits_with_nan as read, f64_to_bits_with_nan as write};
+use std::num::{f64_from_bits_with_nan as read, f64_to_bits_with_nan as written};
 
 // 1 for yes, 0 for no.
 fn flagged(yes: bool) -> u64
@@ -29,7 +29,7 @@ pub fn least(a: u64, b: u64) -> u64
     ensures { result ≡ least_bits a b }
 {
     let (x, y) = (read(a), read(b));
-    write(if x < y { x } else { y })
+    written(if x < y { x } else { y })
 }
 
 // Not `f64::max`: the second where they are the same or one is a NaN.
@@ -37,7 +37,7 @@ pub fn most(a: u64, b: u64) -> u64
     ensures { result ≡ most_bits a b }
 {
     let (x, y) = (read(a), read(b));
-    write(if y < x { x } else { y })
+    written(if y < x { x } else { y })
 }
 
 // Whether a number counts as true: 0, −0 and NaN do not.

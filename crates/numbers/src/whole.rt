@@ -3,7 +3,7 @@ ghost use Rattle.std.specs.Prelude.{◌≡◌};
 ghost use Rattle.numbers.specs.Operations.{binary64};
 
 use std::num::{
-    f64_from_bits_with_nan as read, f64_to_bits_with_nan as write, nearest_u64_to_f64,
+    f64_from_bits_with_nan as read, f64_to_bits_with_nan as written, nearest_u64_to_f64,
     saturating_f64_to_u32,
 };
 
@@ -11,7 +11,7 @@ use std::num::{
 pub fn of_whole(n: u64) -> u64
     ensures { result ≡ binary64.of n }
 {
-    write(nearest_u64_to_f64(n))
+    written(nearest_u64_to_f64(n))
 }
 
 // A whole number below 2^32 as an index, −0 as 0. Any other number gives 2^32, which is out of

@@ -1,16 +1,14 @@
 -- Each operation reads its operands only at their places: where a place of the outcome leads is a place of the operand.
-use Rattle.std.proofs.Common.{◌≡◌, ℕ, zero, suc, ◌+◌, ◌-◌, ◌*◌, ◌/◌, ◌%◌, ◌<◌, ◌≤◌, true, false, ◌||◌, eqb, ◌⊎◌, List, [], ◌∷◌, ◌++◌, reverse, length, get_or, take, drop, set, sym, refl, ap, ◌∙◌, subst, inl, inr, add-zero, mul-le-mul_left, mul-zero, zero-add, arith, length-append, length-set}
+use Rattle.std.proofs.Common.{◌≡◌, ℕ, zero, suc, ◌+◌, ◌-◌, ◌*◌, ◌/◌, ◌<◌, ◌≤◌, true, false, ◌||◌, eqb, ◌⊎◌, List, [], ◌∷◌, ◌++◌, reverse, length, get_or, take, drop, set, sym, refl, ap, ◌∙◌, subst, inl, inr, add-zero, mul-le-mul_left, zero-add, arith, length-append, length-set}
 use mathlib.Core.List.{reverse_aux}
-use lib.Arith.{digits_lt, digits_div, digits_mod}
-use Rattle.std.proofs.lemmas.Nat.{div_below, mod_below}
 use Rattle.std.proofs.lemmas.List.{reverse-reverse, reverse-append, set-set, set-get_or, get_or-set_same}
 use Rattle.std.proofs.lemmas.Bool.{false≢true, eqb-true, and_parts, or_cases}
-use Rattle.semantics.specs.Shapes.{pick, size, In, flat, unflat, same, without, put_in}
+use Rattle.semantics.specs.Shapes.{pick, In, same, without, put_in}
 use Rattle.semantics.specs.Broadcast.{joins, joined, fit, wide, pinned, narrow}
 use Rattle.semantics.specs.Parts.{Part, place_of, part_fits, parts_fit, part_shape, places_of, apart, in_part, in_parts, which_one}
 use Rattle.semantics.specs.Orders.{among, all_among, is_order, turned, where_in, turned_from, turned_back}
 use Rattle.semantics.proofs.Picks.{pick_told}
-use Rattle.semantics.proofs.Places.{Inside, no_axes, axis, inside_in, in_inside, length_inside, get_d_inside, inside_unflat, flat_below, unflat_flat}
+use Rattle.semantics.proofs.Places.{Inside, no_axes, axis, inside_in, length_inside, get_d_inside}
 
 -- ---- one axis out, one index in; one index changed
 pub inside_put_in : (x j : ℕ) (s is : List ℕ) → j < get_or s x 0 → Inside (without x s) is → Inside s (put_in x j is)

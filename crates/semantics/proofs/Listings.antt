@@ -1,9 +1,9 @@
 -- The numbers of an array in the order of its places, one by one.
-use Rattle.std.proofs.Common.{◌≡◌, ℕ, zero, suc, ◌+◌, ◌<◌, List, [], ◌∷◌, length, get_or, sym, refl, ap, ◌∙◌, add-zero, zero-add, arith}
+use Rattle.std.proofs.Common.{◌≡◌, ℕ, zero, suc, ◌+◌, ◌<◌, List, length, get_or, sym, refl, ap, ◌∙◌, add-zero, zero-add, arith}
 use Rattle.std.proofs.lemmas.List.{ext_get_or}
 use Rattle.semantics.specs.Shapes.{size, unflat, up_to}
 use Rattle.semantics.specs.Arrays.{Array}
-use Rattle.semantics.specs.Programs.{numbers_at, listed}
+use Rattle.semantics.specs.Programs.{numbers_at}
 
 module _ {Num : Type 0} (a : Array Num) where
   pub length_numbers_at : (i n : ℕ) → length (numbers_at a (up_to i n)) ≡ n

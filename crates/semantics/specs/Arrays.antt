@@ -1,11 +1,11 @@
 -- What each operation does to arrays: always a new array, a shape and a function from places to numbers. No buffers, strides or views here.
 -- Nothing is said of numbers: sums in another order are other sums.
-use Rattle.std.specs.Prelude.{◌≡◌, ℕ, zero, suc, ◌+◌, ◌-◌, ◌<◌, Bool, true, false, ◌&&◌, List, [], ◌∷◌, ◌++◌, length, take, drop, ◌==◌, nat_lt, slice_index, slice_set}
+use Rattle.std.specs.Prelude.{◌≡◌, ℕ, zero, suc, ◌+◌, ◌-◌, Bool, true, ◌&&◌, List, [], ◌∷◌, ◌++◌, length, take, drop, ◌==◌, nat_lt, slice_index, slice_set}
 use Rattle.semantics.specs.declared.operation.Unary.{Unary}
 use Rattle.semantics.specs.declared.operation.Binary.{Binary}
 use Rattle.semantics.specs.Shapes.{pick, size, In, flat, unflat, up_to, same, without, put_in}
 use Rattle.semantics.specs.Broadcast.{fit, wide, narrow}
-use Rattle.semantics.specs.Parts.{Part, parts_fit, part_shape, places_of, in_parts, which_one}
+use Rattle.semantics.specs.Parts.{Part, part_shape, places_of, in_parts, which_one}
 use Rattle.semantics.specs.Orders.{turned, turned_back}
 
 pub record Array (Num : Type 0) : Type 0 where

@@ -1,5 +1,5 @@
 -- Broadcasting: shapes with their last lengths under each other, equal or one of them 1; a number in a length of 1 counts for all.
-use Rattle.std.specs.Prelude.{ℕ, ◌-◌, Bool, true, false, ◌&&◌, ◌||◌, List, [], ◌∷◌, reverse, length, drop, ◌==◌}
+use Rattle.std.specs.Prelude.{ℕ, ◌-◌, Bool, true, ◌&&◌, ◌||◌, List, [], ◌∷◌, reverse, length, drop, ◌==◌}
 use Rattle.semantics.specs.Shapes.{pick}
 
 -- first lengths under each other

@@ -1,5 +1,5 @@
 -- What a program does: statements one after the other, none after a fault; what is shown, and how it ends.
-use Rattle.std.specs.Prelude.{ℕ, zero, suc, ◌+◌, ◌-◌, Bool, true, false, List, [], ◌∷◌, ◌++◌, length, ◌==◌, nat_lt, slice_index_or, slice_set}
+use Rattle.std.specs.Prelude.{ℕ, zero, suc, ◌+◌, ◌-◌, List, [], ◌∷◌, ◌++◌, ◌==◌, nat_lt, slice_index_or, slice_set}
 use Rattle.semantics.specs.Shapes.{pick, size, unflat, up_to}
 use Rattle.semantics.specs.Parts.{Part, parts_fit}
 use Rattle.semantics.specs.Arrays.{Array, Numbers, can_put, put_array}

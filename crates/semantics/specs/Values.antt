@@ -1,7 +1,7 @@
 -- What an expression comes to: an array, with how many places all arrays on its way had; or a fault.
 -- Faults: 1 shapes that cannot be broadcast or joined, 2 an axis that is not there, an order that is none or too many axes,
 -- 3 shape with another number of places, 4 a part or a row out of range, 5 places, 6 a name or input that has nothing.
-use Rattle.std.specs.Prelude.{ℕ, zero, suc, ◌+◌, ◌-◌, Bool, true, false, not, ◌&&◌, List, [], ◌∷◌, ◌++◌, length, ◌==◌, nat_le, nat_lt, slice_index_or}
+use Rattle.std.specs.Prelude.{ℕ, zero, suc, ◌+◌, ◌-◌, ◌&&◌, List, [], ◌∷◌, length, ◌==◌, nat_le, nat_lt, slice_index_or}
 use Rattle.semantics.specs.declared.operation.Unary.{Unary}
 use Rattle.semantics.specs.declared.operation.Binary.{Binary}
 use Rattle.semantics.specs.Shapes.{pick, size}

@@ -39,14 +39,14 @@ plan-requires t c =
     let there = stands_there c.args.words.now c.args.node c.requires.stands in
     (omega (arith, c.decreases), (each_operand c.args.words.now c.args.node c.in-Some.step c.in-Some.ensures c.in-Each.is c.requires.stands, (c.requires.built, c.requires.small)))
 
-pub returns-in_err-a : goal.returns-in_err-a
-returns-in_err-a t c =
-    plan_exit c.args.words.now c.args.inputs.now c.args.names.now c.args.node c.args.left c.from_residual.result c.in_err-a.field-0.0 c.from_residual.ensures.1
-    (each_stop_at c.args.words.now c.args.inputs.now c.args.names.now c.args.node c.args.left c.in-Some.step c.in-Some.ensures c.in-Each.is c.in_err-a.ensures)
+pub returns-in_err-a-in-Each : goal.returns-in_err-a-in-Each
+returns-in_err-a-in-Each t c =
+    plan_exit c.args.words.now c.args.inputs.now c.args.names.now c.args.node c.args.left c.from_residual.result c.in_err-a-in-Each.field-0.0 c.from_residual.ensures.1
+    (each_stop_at c.args.words.now c.args.inputs.now c.args.names.now c.args.node c.args.left c.in-Some.step c.in-Some.ensures c.in-Each.is c.in_err-a-in-Each.ensures)
 
-pub returns-in_ok-a : goal.returns-in_ok-a
-returns-in_ok-a t c =
-    each_at c.args.words.now c.args.inputs.now c.args.names.now c.args.node c.args.left c.in-Some.step c.in-Some.ensures c.in-Each.is c.in_ok-a.ensures c.count_array-in-Each.ensures
+pub returns-in_ok-a-in-Each : goal.returns-in_ok-a-in-Each
+returns-in_ok-a-in-Each t c =
+    each_at c.args.words.now c.args.inputs.now c.args.names.now c.args.node c.args.left c.in-Some.step c.in-Some.ensures c.in-Each.is c.in_ok-a-in-Each.ensures c.count_array-in-Each.ensures
 
 -- ---- two operands
 pub plan-requires-in-Both : goal.plan-requires-in-Both
@@ -54,30 +54,30 @@ plan-requires-in-Both t c =
     let there = stands_there c.args.words.now c.args.node c.requires.stands in
     (omega (arith, c.decreases), (both_stands c.args.words.now c.args.inputs.now c.args.names.now c.args.node c.args.left c.in-Some.step c.in-Some.ensures c.in-Both.is c.requires.stands, (c.requires.built, c.requires.small)))
 
-pub returns-in_err-a-2 : goal.returns-in_err-a-2
-returns-in_err-a-2 t c =
-    plan_exit c.args.words.now c.args.inputs.now c.args.names.now c.args.node c.args.left c.from_residual-in_err-a-2.result c.in_err-a-2.field-0.0 c.from_residual-in_err-a-2.ensures.1
-    (both_stop_at c.args.words.now c.args.inputs.now c.args.names.now c.args.node c.args.left c.in-Some.step c.in-Some.ensures c.in-Both.is c.in_err-a-2.ensures)
+pub returns-in_err-a-in-Both : goal.returns-in_err-a-in-Both
+returns-in_err-a-in-Both t c =
+    plan_exit c.args.words.now c.args.inputs.now c.args.names.now c.args.node c.args.left c.from_residual-in_err-a-in-Both.result c.in_err-a-in-Both.field-0.0 c.from_residual-in_err-a-in-Both.ensures.1
+    (both_stop_at c.args.words.now c.args.inputs.now c.args.names.now c.args.node c.args.left c.in-Some.step c.in-Some.ensures c.in-Both.is c.in_err-a-in-Both.ensures)
 
 pub plan-requires-in-Both-2 : goal.plan-requires-in-Both-2
 plan-requires-in-Both-2 t c =
     let ws = c.args.words.now in
     let first = both_stands ws c.args.inputs.now c.args.names.now c.args.node c.args.left c.in-Some.step c.in-Some.ensures c.in-Both.is c.requires.stands in
-    let a = c.in_ok-a-2.ensures in
+    let a = c.in_ok-a-in-Both.ensures in
     let second = both_stands_second ws c.args.inputs.now c.args.names.now c.args.node c.args.left c.in-Some.step c.in-Some.ensures c.in-Both.is a.skips c.requires.stands in
-    let there = stands_there ws c.in_ok-a-2.a.next second in
-    let further = skips_further ws (c.args.node + 1) c.in_ok-a-2.a.next first a.skips in
+    let there = stands_there ws c.in_ok-a-in-Both.a.next second in
+    let further = skips_further ws (c.args.node + 1) c.in_ok-a-in-Both.a.next first a.skips in
     (omega (arith, c.decreases), (second, (c.requires.built, omega (arith, c.requires.small))))
 
-pub returns-in_err-b : goal.returns-in_err-b
-returns-in_err-b t c =
-    plan_exit c.args.words.now c.args.inputs.now c.args.names.now c.args.node c.args.left c.from_residual-in_err-b.result c.in_err-b.field-0.0 c.from_residual-in_err-b.ensures.1
-    (both_stop_second_at c.args.words.now c.args.inputs.now c.args.names.now c.args.node c.args.left c.in-Some.step c.in-Some.ensures c.in-Both.is c.in_ok-a-2.ensures c.in_err-b.ensures)
+pub returns-in_err-b-in-Both : goal.returns-in_err-b-in-Both
+returns-in_err-b-in-Both t c =
+    plan_exit c.args.words.now c.args.inputs.now c.args.names.now c.args.node c.args.left c.from_residual-in_err-b-in-Both.result c.in_err-b-in-Both.field-0.0 c.from_residual-in_err-b-in-Both.ensures.1
+    (both_stop_second_at c.args.words.now c.args.inputs.now c.args.names.now c.args.node c.args.left c.in-Some.step c.in-Some.ensures c.in-Both.is c.in_ok-a-in-Both.ensures c.in_err-b-in-Both.ensures)
 
 pub returns-then-not-can_broadcast : goal.returns-then-not-can_broadcast
 returns-then-not-can_broadcast t c =
-    both_unlike_at c.args.words.now c.args.inputs.now c.args.names.now c.args.node c.args.left c.in-Some.step c.in-Some.ensures c.in-Both.is c.in_ok-a-2.ensures c.in_ok-b.ensures _ c.if-not-can_broadcast.ensures refl
+    both_unlike_at c.args.words.now c.args.inputs.now c.args.names.now c.args.node c.args.left c.in-Some.step c.in-Some.ensures c.in-Both.is c.in_ok-a-in-Both.ensures c.in_ok-b-in-Both.ensures _ c.if-not-can_broadcast.ensures refl
 
 pub returns-else-not-can_broadcast : goal.returns-else-not-can_broadcast
 returns-else-not-can_broadcast t c =
-    both_at c.args.words.now c.args.inputs.now c.args.names.now c.args.node c.args.left c.in-Some.step c.in-Some.ensures c.in-Both.is c.in_ok-a-2.ensures c.in_ok-b.ensures c.if-not-can_broadcast.ensures c.broadcast_shape-shape.ensures c.count_array-in-Both.ensures
+    both_at c.args.words.now c.args.inputs.now c.args.names.now c.args.node c.args.left c.in-Some.step c.in-Some.ensures c.in-Both.is c.in_ok-a-in-Both.ensures c.in_ok-b-in-Both.ensures c.if-not-can_broadcast.ensures c.broadcast_shape-shape.ensures c.count_array-in-Both.ensures
