@@ -175,6 +175,7 @@ peak_again i d p r = begin_low (max (suc i) (max (i + p) r)) ∙ end_low (max (i
   where
     begin_low : (m : ℕ) → max i (max (suc i + d) m) ≡ max (suc i + d) m
     begin_low m = omega arith
+
     end_low : (n : ℕ) → max (suc i + d) (max (suc i) n) ≡ max (suc i + d) n
     end_low n = omega arith
 

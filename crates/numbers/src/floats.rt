@@ -8,7 +8,9 @@ ghost use Rattle.numbers.specs.Operations.{binary64};
 ghost use Rattle.numbers.specs.Patterns.{Pattern};
 ghost use Rattle.numbers.specs.Standing.{StandsFor, MadeOfOne, MadeOfTwo};
 
-use std::num::{f64_from_bits_with_nan as read, f64_to_bits_with_nan as written, nearest_u64_to_f64};
+use std::num::{
+    f64_from_bits_with_nan as read, f64_to_bits_with_nan as written, nearest_u64_to_f64,
+};
 
 pub fn float_of(a: u64) -> f64
     ensures { StandsFor result a }
