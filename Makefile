@@ -2,8 +2,7 @@
 .PHONY: run test
 
 run:
-	rt check engine meaning rewrite
-	target/bin/engine --input examples/glacier.arrays examples/glacier.txt
+	cd crates/engine && rt run -- --input ../../examples/glacier.arrays ../../examples/glacier.txt
 
 test:
-	rt ci
+	tools/gate.sh

@@ -1,6 +1,6 @@
 -- The numbers of an array that lies in bytes, in the order of its places.
-use Rattle.std.proofs.Common.{◌≡◌, ℕ, ◌+◌, ◌*◌, ◌<◌, ◌≤◌, List, length, get_or, sym, refl, ap, ◌∙◌, zero-add}
-use Rattle.semantics.specs.Shapes.{size, flat, unflat}
+use Rattle.std.proofs.Common.{◌≡◌, ℕ, ◌+◌, ◌*◌, ◌<◌, List, length, get_or, refl, ap, ◌∙◌, zero-add}
+use Rattle.semantics.specs.Shapes.{size, unflat}
 use Rattle.semantics.specs.Programs.{listed}
 use Rattle.semantics.proofs.Listings.{length_numbers_at, get_d_numbers_at}
 use Rattle.semantics.proofs.Places.{flat_unflat}

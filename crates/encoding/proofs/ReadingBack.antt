@@ -1,15 +1,14 @@
 -- What was written is read back as itself: one array behind any bytes, then a row of them.
-use Rattle.std.proofs.Common.{◌≡◌, ℕ, ◌+◌, ◌*◌, ◌<◌, ◌≤◌, true, List, [], ◌∷◌, ◌++◌, map, length, get_or, take, sym, refl, ap, ◌∙◌, subst, add-zero, arith, length-append}
+use Rattle.std.proofs.Common.{◌≡◌, ℕ, ◌+◌, ◌*◌, ◌<◌, ◌≤◌, true, List, [], ◌∷◌, ◌++◌, map, length, get_or, sym, refl, ap, ◌∙◌, subst, add-zero, arith, length-append}
 use Rattle.std.specs.List.{flat_map}
 use Rattle.std.proofs.lemmas.List.{append_assoc, append-nil, take_all}
-use Rattle.semantics.specs.Shapes.{size, flat, unflat, up_to}
-use Rattle.semantics.specs.Arrays.{Array}
-use Rattle.semantics.specs.Programs.{Shown, listed, numbers_at}
+use Rattle.semantics.specs.Shapes.{size}
+use Rattle.semantics.specs.Programs.{Shown, listed}
 use Rattle.semantics.proofs.Listings.{numbers_at_is}
 use Rattle.semantics.proofs.Places.{flat_unflat}
 use Rattle.numbers.specs.Binary64.{canonical_bits}
-use Rattle.encoding.specs.Words.{word8, bytes4, bytes8}
-use Rattle.encoding.specs.Format.{rank_at, words_at, shape_at, start_at, next_at, good_at, number_at, array_at, Row, behind, row_at, offsets, stop, inputs_of}
+use Rattle.encoding.specs.Words.{bytes4, bytes8}
+use Rattle.encoding.specs.Format.{rank_at, words_at, shape_at, start_at, next_at, good_at, number_at, array_at, Row, behind, row_at, offsets, inputs_of}
 use Rattle.encoding.specs.Writing.{head_bytes, number_bytes, array_bytes}
 use Rattle.encoding.specs.ReadBack.{Writable, AllWritable, none, more, shown_bytes, ReadBack}
 use Rattle.encoding.proofs.Formats.{rank_at_is, start_at_is, next_at_is, good_at_from}

@@ -1,8 +1,7 @@
 -- Inputs one after another: one step of the row, whether or not there is a good input at an index.
-use Rattle.std.proofs.Common.{◌≡◌, ℕ, zero, suc, ◌+◌, ◌*◌, ◌<◌, ◌≤◌, Bool, true, false, List, [], ◌∷◌, length, sym, refl, ap, ◌∙◌, inl, inr, arith}
-use Rattle.std.proofs.lemmas.Bool.{leb-true, leb-false, and_parts, and_cases, lt-leb, and_left, and_right, cases_Bool}
-use Rattle.semantics.specs.Shapes.{pick}
-use Rattle.encoding.specs.Format.{rank_at, start_at, next_at, good_at, Row, behind, row_from, row_at, offsets, stop}
+use Rattle.std.proofs.Common.{◌≡◌, ℕ, zero, suc, ◌+◌, ◌<◌, ◌≤◌, true, false, List, [], length, sym, refl, ap, ◌∙◌, inl, inr, arith}
+use Rattle.std.proofs.lemmas.Bool.{leb-true, and_parts, lt-leb, and_left, and_right, cases_Bool}
+use Rattle.encoding.specs.Format.{rank_at, next_at, good_at, behind, row_from, row_at, offsets, stop}
 use Rattle.encoding.specs.Headers.{Heads, Flawed}
 use Rattle.encoding.specs.declared.header.Header.{Header}
 use Rattle.encoding.specs.declared.header.Flaw.{Flaw}

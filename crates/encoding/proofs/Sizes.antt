@@ -1,5 +1,5 @@
 -- The number of places of a shape, one length after the other, and capped at the largest word.
-use Rattle.std.proofs.Common.{◌≡◌, ℕ, zero, suc, ◌+◌, ◌-◌, ◌*◌, ◌^◌, ◌<◌, ◌≤◌, min, List, [], ◌∷◌, ◌++◌, length, get_or, take, sym, refl, ap, ◌∙◌, inl, inr, mul-le-mul_right, mul_assoc, one-mul, mul-zero, mul-one, mul-suc, arith}
+use Rattle.std.proofs.Common.{◌≡◌, ℕ, zero, suc, ◌+◌, ◌*◌, ◌<◌, ◌≤◌, min, List, [], ◌∷◌, ◌++◌, length, get_or, take, sym, ap, ◌∙◌, inl, inr, mul-le-mul_right, mul_assoc, one-mul, mul-zero, mul-one, mul-suc, arith}
 use native.Mathlib.Nat.{min-eq_left, min-eq_right}
 use Rattle.std.proofs.lemmas.List.{take_more}
 use Rattle.std.proofs.lemmas.Bool.{cases_lt}

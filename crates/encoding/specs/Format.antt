@@ -1,5 +1,5 @@
 -- An array in bytes, from an index on: the number of axes (one byte), the lengths (four bytes each), the numbers (eight bytes each, rows first).
-use Rattle.std.specs.Prelude.{ℕ, zero, suc, ◌+◌, ◌*◌, Bool, true, false, ◌&&◌, List, [], ◌∷◌, ◌++◌, map, length, nat_le, slice_index}
+use Rattle.std.specs.Prelude.{ℕ, zero, suc, ◌+◌, ◌*◌, Bool, ◌&&◌, List, [], ◌∷◌, ◌++◌, map, length, nat_le, slice_index}
 use Rattle.semantics.specs.Shapes.{pick, size, flat}
 use Rattle.semantics.specs.Arrays.{Array}
 use Rattle.numbers.specs.Binary64.{canonical_bits}

@@ -1,5 +1,5 @@
 -- What was written is read back as itself.
-use Rattle.std.specs.Prelude.{◌≡◌, ℕ, ◌^◌, ◌<◌, ◌≤◌, List, [], ◌∷◌, ◌++◌, map, length, slice_index}
+use Rattle.std.specs.Prelude.{◌≡◌, ℕ, ◌^◌, ◌<◌, ◌≤◌, List, [], ◌∷◌, map, length, slice_index}
 use Rattle.std.specs.List.{flat_map}
 use Rattle.semantics.specs.Shapes.{size}
 use Rattle.semantics.specs.Programs.{Shown, listed}

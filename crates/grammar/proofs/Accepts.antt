@@ -1,5 +1,5 @@
 -- The automaton takes just the texts of programs, with their steps, and is stuck just where no program goes on so.
-use Rattle.std.proofs.Common.{◌≡◌, ℕ, zero, suc, ◌+◌, ◌<◌, ◌≤◌, Bool, true, false, eqb, ◌⊎◌, List, [], ◌∷◌, ◌++◌, length, take, sym, refl, ap, ◌∙◌, subst, inl, inr, ⊎_elim, true≢false, append_assoc, arith}
+use Rattle.std.proofs.Common.{◌≡◌, ℕ, Bool, true, false, eqb, List, [], ◌∷◌, ◌++◌, take, sym, refl, ap, ◌∙◌, subst, inl, inr, ⊎_elim, true≢false, append_assoc, arith}
 use mathlib.Core.Bool.{false≢true}
 use Rattle.std.proofs.lemmas.Bool.{cases_Bool, both_ways}
 use Rattle.semantics.specs.Shapes.{pick}
@@ -16,12 +16,11 @@ use Rattle.grammar.specs.Automaton.{State, stuck, at, start, next, next_flag, ru
 use Rattle.grammar.specs.declared.symbol.Symbol.{Symbol}
 use Rattle.grammar.proofs.Along.{along, next_letter, checked, flag_code}
 use Rattle.grammar.proofs.Emits.{emit_program, onto_spell_program}
-use Rattle.grammar.proofs.ExprAlong.{Spellings}
-use Rattle.grammar.proofs.EndsBack.{Front, append_nil}
+use Rattle.grammar.proofs.EndsBack.{append_nil}
 use Rattle.grammar.proofs.LinesAlong.{outside, lines_along}
-use Rattle.grammar.proofs.Says.{SaysAll, says_next, says_none, says_lines}
+use Rattle.grammar.proofs.Says.{says_next, says_none, says_lines}
 use Rattle.grammar.proofs.Sound.{SoundState, sound_stuck, sound_at, sound_more, sound_none, sound_fresh, fresh_lines, SoundAll, AllFresh}
-use Rattle.grammar.proofs.Tells.{Tells, tells, run_keep, run_back, LettersMore}
+use Rattle.grammar.proofs.Tells.{Tells, tells, run_keep, run_back}
 use Rattle.grammar.proofs.NeverEmpty.{Told, never_empty}
 use Rattle.grammar.proofs.Unspell.{same_from_spelled}
 

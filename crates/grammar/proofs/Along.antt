@@ -1,10 +1,10 @@
 -- The automaton along letters: it goes on only where its flag is the letter's. What it does at one letter.
-use Rattle.std.proofs.Common.{◌≡◌, ℕ, suc, Bool, true, false, eqb, List, [], ◌∷◌, ◌++◌, sym, refl, ap, ◌∙◌, subst}
+use Rattle.std.proofs.Common.{◌≡◌, ℕ, true, false, eqb, List, [], ◌∷◌, ◌++◌, sym, refl, ap, ◌∙◌}
 use Rattle.semantics.specs.Shapes.{pick}
 use Rattle.program.specs.declared.step.Step.{Step}
 use Rattle.grammar.specs.Letters.{Flag, inside, begins, opens, closes, Letter, letter}
 use Rattle.grammar.specs.Words.{Word}
-use Rattle.grammar.specs.Moves.{belongs, Ended, ended, ends, Move, move, moves}
+use Rattle.grammar.specs.Moves.{belongs, ended, ends, move, moves}
 use Rattle.grammar.specs.Automaton.{State, stuck, at, settle, settled, top_move, moved, move_flag, next, next_flag}
 use Rattle.grammar.specs.declared.symbol.Symbol.{Symbol}
 

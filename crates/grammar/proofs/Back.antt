@@ -1,16 +1,14 @@
 -- A byte read is a letter more before what the symbols then say.
-use Rattle.std.proofs.Common.{◌≡◌, ℕ, zero, suc, ◌+◌, ◌-◌, ◌*◌, ◌/◌, ◌%◌, ◌<◌, ◌≤◌, Bool, true, false, ◌&&◌, ◌||◌, eqb, ltb, leb, ◌⊎◌, List, [], ◌∷◌, ◌++◌, length, get_or, codes, decimal, sym, refl, ap, ◌∙◌, subst, inl, inr, ⊎_elim, append_assoc, arith}
+use Rattle.std.proofs.Common.{◌≡◌, ℕ, zero, suc, ◌+◌, ◌-◌, ◌*◌, ◌/◌, ◌%◌, ◌<◌, ◌≤◌, Bool, true, false, ◌&&◌, eqb, ltb, leb, List, [], ◌∷◌, ◌++◌, length, codes, decimal, sym, refl, ap, ◌∙◌, subst, ⊎_elim, append_assoc, arith}
 use Rattle.std.proofs.lemmas.Fmt.{decimal_digit, decimal_step}
 use Rattle.std.proofs.lemmas.Bool.{and_parts, or_cases, eqb-true, leb-true, ltb-true, lt-ltb, le-ltb}
 use Rattle.semantics.specs.Shapes.{pick}
-use Rattle.semantics.specs.Programs.{Program, end, be, put, show, again}
-use Rattle.semantics.specs.Values.{constant}
 use Rattle.program.specs.declared.step.Step.{Step}
 use Rattle.program.specs.Spelling.{items, slices, spell, spell_program}
 use Rattle.grammar.specs.Letters.{Flag, inside, begins, opens, closes, Letter, letter, plain, plains, flagged}
 use Rattle.grammar.specs.Words.{Word, is_digit, begins_some, binary_word, binaries}
 use Rattle.grammar.specs.Constants.{canonical, hex_value, read_constant, read_expr, read_program}
-use Rattle.grammar.specs.Sayable.{Small, Smalls, SmallPart, SmallParts, FitLines, fit_end, fit_be, fit_put, fit_show, fit_again, fit_constant, Sixteen, Digits, none, more}
+use Rattle.grammar.specs.Sayable.{fit_end, fit_be, fit_put, fit_show, fit_again, fit_constant, none, more}
 use Rattle.grammar.specs.Written.{hex_byte, write_hex, write_number, write_item, write_items, write_more_items, write_part, write_parts, write_more_parts, write_expr, write_lines}
 use Rattle.grammar.specs.Moves.{Move, stop, move, moves, when, push, spelled, line_move, digit_move, item_number, is_hex, hex_of, hex_move, operands_move, viable, viable_name}
 use Rattle.grammar.specs.declared.symbol.Target.{Target}
@@ -18,8 +16,8 @@ use Rattle.grammar.specs.declared.symbol.Bracket.{Bracket}
 use Rattle.grammar.specs.declared.symbol.Number.{Number}
 use Rattle.grammar.specs.declared.symbol.Symbol.{Symbol}
 use Rattle.grammar.specs.Automaton.{onto}
-use Rattle.grammar.proofs.NumberAlong.{flagged_snoc, is_digit_of}
-use Rattle.grammar.proofs.Says.{Says, SaysAll, says_none, says_next, Follows, an_again, an_item, a_from, a_step, a_many, says_lines, says_body, says_byte, says_let, says_put, says_expr, says_word, says_binary, says_number, says_digits, says_hex, says_close, says_more, says_first_items, says_first_parts, says_more_items, says_more_parts, says_item, says_part, says_step, sign}
+use Rattle.grammar.proofs.NumberAlong.{flagged_snoc}
+use Rattle.grammar.proofs.Says.{Says, SaysAll, says_next, an_again, an_item, a_from, a_step, says_lines, says_body, says_byte, says_let, says_put, says_expr, says_word, says_binary, says_number, says_digits, says_hex, says_close, says_more, says_first_items, says_first_parts, says_more_items, says_more_parts, says_item, says_part, says_step}
 
 -- what is then said, said of the symbol before
 abbrev pub Backs : List Word → Symbol → Word → ℕ → ℕ → Flag → List Step → List Symbol → Word → ℕ → Type 0

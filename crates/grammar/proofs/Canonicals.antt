@@ -1,5 +1,5 @@
 -- What a text says can be written: a program that was read has constants that are patterns.
-use Rattle.std.proofs.Common.{◌≡◌, ℕ, suc, ◌+◌, ◌*◌, ◌%◌, ◌^◌, ◌<◌, ◌≤◌, Bool, true, false, ltb, List, [], ◌∷◌, length, sym, refl, ap, ◌∙◌, subst, mul-le-mul_right, mul_assoc, mul_comm, one-mul, pow-suc, zero-add, arith, lit<}
+use Rattle.std.proofs.Common.{◌≡◌, ℕ, suc, ◌+◌, ◌*◌, ◌%◌, ◌^◌, ◌<◌, ◌≤◌, Bool, true, false, ltb, List, length, sym, refl, ap, ◌∙◌, subst, mul-le-mul_right, mul_assoc, mul_comm, one-mul, pow-suc, arith, lit<}
 use Rattle.semantics.specs.Shapes.{pick}
 use Rattle.semantics.specs.Values.{Expr}
 use Rattle.semantics.specs.Programs.{Program}

@@ -1,5 +1,5 @@
 -- What is counted along the letters of a program stays within its marks and its depth.
-use Rattle.std.proofs.Common.{◌≡◌, ℕ, zero, suc, ◌+◌, ◌-◌, ◌<◌, ◌≤◌, max, Bool, true, false, not, List, [], ◌∷◌, length, get_or, take, codes, decimal, sym, refl, ap, ◌∙◌, arith}
+use Rattle.std.proofs.Common.{◌≡◌, ℕ, zero, suc, ◌+◌, ◌-◌, ◌<◌, ◌≤◌, max, true, false, not, List, [], ◌∷◌, length, get_or, take, codes, decimal, refl, ap, ◌∙◌, arith}
 use Rattle.std.proofs.lemmas.Fmt.{decimal_nonempty as decimal-some}
 use Rattle.std.proofs.lemmas.Bool.{and_parts, both_ways}
 use Rattle.semantics.specs.Shapes.{pick}
@@ -16,7 +16,7 @@ use Rattle.grammar.specs.Sayable.{Small, Smalls, SmallPart, SmallParts, none, mo
 use Rattle.grammar.specs.Limits.{marks_in, marks_of, depth_of}
 use Rattle.grammar.specs.Written.{write_hex, write_number, write_item, write_items, write_more_items, write_part, write_parts, write_more_parts, write_expr, write_lines}
 use Rattle.grammar.proofs.NameLaws.{names_at}
-use Rattle.grammar.proofs.ExprAlong.{fits_more, comes_more}
+use Rattle.grammar.proofs.ExprAlong.{fits_more}
 use Rattle.grammar.proofs.LinesAlong.{lines_more}
 
 -- the level with one flag more; the marks that letters begin, and the level that they come to at the highest, from level l

@@ -1,15 +1,14 @@
 -- A word or number that ends says what its rest then says.
-use Rattle.std.proofs.Common.{◌≡◌, ℕ, zero, suc, ◌+◌, ◌<◌, ◌≤◌, Bool, true, false, ◌&&◌, ◌||◌, ltb, ◌⊎◌, List, [], ◌∷◌, ◌++◌, length, get_or, Some, None, decimal, Option, sym, refl, ap, ◌∙◌, subst, inl, inr, ⊎_elim, append_assoc, arith, length-append}
-use Rattle.std.proofs.lemmas.Bool.{cases_Bool}
+use Rattle.std.proofs.Common.{◌≡◌, ℕ, zero, suc, ◌<◌, Bool, true, false, List, [], ◌∷◌, ◌++◌, length, get_or, Some, None, decimal, Option, sym, refl, ap, ◌∙◌, subst, append_assoc, arith, length-append}
 use Rattle.semantics.specs.Shapes.{pick}
 use Rattle.semantics.specs.declared.operation.Binary.{Binary as Two}
 use Rattle.program.specs.declared.step.Step.{Step}
-use Rattle.program.specs.Spelling.{items, slices, spell, spell_program}
-use Rattle.grammar.specs.Letters.{Letter, letter, begins, plain, plains, flagged}
-use Rattle.grammar.specs.Words.{Word, is_some, itself, find, head_word, heads, unary_word, binary_word, binaries}
-use Rattle.grammar.specs.Constants.{read_expr, read_program}
+use Rattle.program.specs.Spelling.{spell}
+use Rattle.grammar.specs.Letters.{Letter, begins, plains, flagged}
+use Rattle.grammar.specs.Words.{Word, is_some, itself, find, head_word, heads, binary_word, binaries}
+use Rattle.grammar.specs.Constants.{read_expr}
 use Rattle.grammar.specs.Sayable.{Small, Comes, known, new, fit_name, fit_input, fit_count, fit_each, fit_both, fit_choose, fit_fold, fit_scan, fit_shape, fit_turn, fit_part, fit_join, fit_rows}
-use Rattle.grammar.specs.Written.{write_expr, write_number, write_parts}
+use Rattle.grammar.specs.Written.{write_expr}
 use Rattle.grammar.specs.Moves.{place, with_name, can_name, operands, bracket, spelled, head_step, head_rest, target_step, target_rest, along_step, number_step, number_rest, Ended, no, ended, name_ends, word_ends, binary_ends, ends}
 use Rattle.grammar.specs.declared.symbol.Head.{Head}
 use Rattle.grammar.specs.declared.symbol.Along.{Along}
@@ -20,7 +19,7 @@ use Rattle.grammar.specs.Automaton.{onto}
 use Rattle.grammar.proofs.WordLaws.{find_some}
 use Rattle.grammar.proofs.NameLaws.{place_there, place_absent}
 use Rattle.grammar.proofs.Back.{pick_told}
-use Rattle.grammar.proofs.Says.{Says, SaysAll, says_none, says_next, Follows, an_input, a_count, an_axis, a_join, an_again, an_item, a_from, a_step, a_many, says_body, says_byte, says_let, says_put, says_expr, says_word, says_binary, says_number, says_digits, says_close, says_more, says_first_items, says_first_parts, says_step}
+use Rattle.grammar.proofs.Says.{SaysAll, says_next, an_input, a_count, an_axis, a_join, an_again, an_item, a_from, a_step, a_many, says_body, says_byte, says_let, says_put, says_expr, says_word, says_binary, says_number, says_digits, says_close, says_more, says_first_items, says_first_parts, says_step}
 
 -- ms begins with ns
 pub record Front (ns ms : List Word) : Type 0 where

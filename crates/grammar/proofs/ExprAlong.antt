@@ -1,16 +1,16 @@
 -- The automaton along an expression: afterwards its steps are there, its names have come, and what stood below it is next.
-use Rattle.std.proofs.Common.{◌≡◌, ℕ, zero, suc, ◌+◌, ◌<◌, ◌≤◌, Bool, true, false, not, ◌&&◌, ◌||◌, eqb, ltb, leb, List, [], ◌∷◌, ◌++◌, length, get_or, take, Some, None, Option, sym, refl, ap, ◌∙◌, subst, ap₂, arith, length-take}
+use Rattle.std.proofs.Common.{◌≡◌, ℕ, suc, ◌<◌, ◌≤◌, true, false, not, ◌&&◌, ◌||◌, eqb, ltb, leb, List, [], ◌∷◌, ◌++◌, length, get_or, take, None, sym, refl, ap, ◌∙◌, ap₂, arith, length-take}
 use Rattle.std.proofs.lemmas.Bool.{and_from, and_parts, or_left, or_right, or_parts, not-true, lt-ltb, leb-true, ne_eqb}
 use Rattle.semantics.specs.Shapes.{pick}
-use Rattle.semantics.specs.Values.{Expr, name, input, constant, count, each, both, choose, fold, scan, shape_to, turn, part, join, rows}
+use Rattle.semantics.specs.Values.{Expr}
 use Rattle.program.specs.declared.step.Step.{Step}
 use Rattle.grammar.specs.Letters.{Flag, inside, begins, Letter, letter, plain, plains, flagged}
 use Rattle.grammar.specs.Words.{Word, in_word, is_digit, is_letter, all_in_word, is_name, is_some, itself, shaped, reserved, find, head_word, heads, are_names}
 use Rattle.grammar.specs.Constants.{read_expr, read_constant}
-use Rattle.grammar.specs.Sayable.{Small, Comes, known, new, Fits, fit_name, fit_input, fit_constant, fit_count, fit_each, fit_both, fit_choose, fit_fold, fit_scan, fit_shape, fit_turn, fit_part, fit_join, fit_rows, Sixteen, Digits, none, more}
+use Rattle.grammar.specs.Sayable.{Small, Comes, known, new, Fits, fit_name, fit_input, fit_constant, fit_count, fit_each, fit_both, fit_choose, fit_fold, fit_scan, fit_shape, fit_turn, fit_part, fit_join, fit_rows, Sixteen, Digits, more}
 use Rattle.grammar.specs.Written.{write_expr, write_hex, write_number}
 use Rattle.grammar.specs.Moves.{belongs, Move, move, moves, when, can_name, viable_name, viable, with_name, place, ends, word_ends, name_ends, Ended, ended, no, number_step, target_step, target_rest}
-use Rattle.grammar.specs.Automaton.{State, at}
+use Rattle.grammar.specs.Automaton.{at}
 use Rattle.grammar.specs.declared.symbol.Along.{Along}
 use Rattle.grammar.specs.declared.symbol.Target.{Target}
 use Rattle.grammar.specs.declared.symbol.Number.{Number}
@@ -18,7 +18,7 @@ use Rattle.grammar.specs.declared.symbol.Symbol.{Symbol}
 use Rattle.grammar.proofs.WordLaws.{find_none}
 use Rattle.grammar.proofs.NameLaws.{names_at, place_known, place_new, take_snoc}
 use Rattle.grammar.proofs.Along.{along, along_moves, along_ends}
-use Rattle.grammar.proofs.NumberAlong.{when_true, flagged_inside}
+use Rattle.grammar.proofs.NumberAlong.{when_true}
 use Rattle.grammar.proofs.NameAlong.{viable_front, viable_from_name, letters_along}
 use Rattle.grammar.proofs.ListAlong.{hex_along, number_all, items_along, parts_along}
 use Rattle.grammar.proofs.Emits.{emit, emit_items, emit_parts}

@@ -1,9 +1,7 @@
 -- A beginning of a name becomes a name: one that has come, or a new one.
-use Rattle.std.proofs.Common.{◌≡◌, ℕ, zero, suc, ◌+◌, ◌<◌, ◌≤◌, Bool, true, false, not, ◌&&◌, ◌||◌, eqb, ltb, leb, ◌⊎◌, List, [], ◌∷◌, ◌++◌, length, get_or, sym, refl, ap, ◌∙◌, subst, inl, inr, ⊎_elim, arith, length-append}
-use Rattle.std.proofs.lemmas.Bool.{and_parts, and_from, or_cases, or_left, or_right, and_left, and_right, not_from_false, not_from_true, cases_Bool, ltb-true, lt-ltb, le-ltb, eq-eqb, both_ways, cases_lt}
-use Rattle.semantics.specs.declared.operation.Unary.{Unary}
+use Rattle.std.proofs.Common.{◌≡◌, ℕ, suc, ◌<◌, ◌≤◌, Bool, true, false, not, ◌&&◌, ◌||◌, eqb, ltb, List, [], ◌∷◌, ◌++◌, length, get_or, sym, refl, ◌∙◌, subst, ⊎_elim, arith, length-append}
+use Rattle.std.proofs.lemmas.Bool.{and_parts, and_from, or_cases, and_left, and_right, not_from_false, not_from_true, cases_Bool, ltb-true, lt-ltb, le-ltb, eq-eqb, both_ways, cases_lt}
 use Rattle.semantics.specs.declared.operation.Unary.TheVariants.{Neg, Abs, Sqrt, Floor, Not}
-use Rattle.semantics.specs.declared.operation.Binary.{Binary}
 use Rattle.semantics.specs.declared.operation.Binary.TheVariants.{Add, Sub, Mul, Div, Less, Same, Least, Most}
 use Rattle.grammar.specs.Words.{Word, is_some, itself, begins_some, head_word, heads, kept_words, reserved, shaped, is_letter, is_digit, in_word, all_in_word, is_name}
 use Rattle.grammar.specs.Sayable.{Comes, known, new}

@@ -1,17 +1,13 @@
 -- The automaton's answer is the verdict on a text, and there is one verdict.
-use Rattle.std.proofs.Common.{◌≡◌, ℕ, zero, suc, ◌+◌, ◌-◌, ◌<◌, ◌≤◌, Bool, true, false, ◌||◌, eqb, ltb, ◌⊎◌, List, [], ◌∷◌, ◌++◌, length, take, sym, refl, ap, ◌∙◌, subst, ap₂, inl, inr, ⊎_elim, true≢false, append_assoc, add-one, arith, length-append}
-use mathlib.Core.Bool.{false≢true}
-use Rattle.std.proofs.lemmas.Bool.{cases_Bool, both_ways, or_cases, or_parts, or_left, or_right, lt-ltb, ltb-true, ltb-false, eqb-true, eqb-false, cases_lt, cases_order}
-use Rattle.semantics.specs.Shapes.{pick}
+use Rattle.std.proofs.Common.{◌≡◌, ℕ, zero, suc, ◌+◌, ◌-◌, ◌<◌, ◌≤◌, true, false, eqb, ltb, List, [], ◌∷◌, ◌++◌, length, take, sym, refl, ap, ◌∙◌, subst, inl, ⊎_elim, append_assoc, add-one, arith, length-append}
+use Rattle.std.proofs.lemmas.Bool.{both_ways, or_cases, or_parts, or_left, or_right, lt-ltb, ltb-true, ltb-false, eqb-true, eqb-false, cases_lt, cases_order}
 use Rattle.semantics.specs.Programs.{Program}
-use Rattle.program.specs.declared.step.Step.{Step}
-use Rattle.program.specs.Spelling.{spell_program}
 use Rattle.grammar.specs.Letters.{Flag, inside, begins, opens, closes, Letter, letter, bytes, Tally, nothing, tally_flag, tally}
-use Rattle.grammar.specs.Texts.{Writing, letters, Reads, GoesOn, Passes, many, deep, BeginsOver, Stops, wrong, short, NoProgram, TooMuch, long, over, Verdict, taken, no_program, too_much, Judged, is_taken, is_no_program, is_too_much}
-use Rattle.grammar.specs.Automaton.{State, start, next, next_flag, run, run_tally, is_stuck, between, last, steps_of, Answer, took, refused_7, refused_8, too_much_in, judge, answer_to, answer_of}
+use Rattle.grammar.specs.Texts.{letters, Reads, GoesOn, Passes, many, deep, BeginsOver, Stops, wrong, short, NoProgram, TooMuch, long, over, Verdict, taken, no_program, too_much, Judged, is_taken, is_no_program, is_too_much}
+use Rattle.grammar.specs.Automaton.{start, next, next_flag, run, run_tally, is_stuck, between, last, steps_of, Answer, took, refused_7, refused_8, too_much_in, judge, answer_to, answer_of}
 use Rattle.grammar.proofs.EndsBack.{append_nil}
 use Rattle.grammar.proofs.Back.{pick_told}
-use Rattle.grammar.proofs.Accepts.{run_append, tally_append, writing_tally, reads_accepted, accepted_reads, one_program, Begun, run_begun, begun_reads, goes_on_run, run_goes_on, reads_begun, stuck_before}
+use Rattle.grammar.proofs.Accepts.{run_append, tally_append, writing_tally, reads_accepted, accepted_reads, one_program, run_begun, goes_on_run, run_goes_on, reads_begun, stuck_before}
 
 -- LISTS
 

@@ -1,7 +1,7 @@
 -- How long texts are: at most 35 bytes a mark.
-use Rattle.std.proofs.Common.{◌≡◌, ℕ, zero, suc, ◌+◌, ◌*◌, ◌<◌, ◌≤◌, Bool, true, false, not, ◌&&◌, ltb, List, [], ◌∷◌, ◌++◌, length, get_or, codes, decimal, sym, refl, ap, ◌∙◌, inl, inr, ⊎_elim, arith, length-append}
+use Rattle.std.proofs.Common.{◌≡◌, ℕ, zero, suc, ◌+◌, ◌*◌, ◌≤◌, Bool, true, false, not, ◌&&◌, ltb, List, [], ◌∷◌, ◌++◌, length, get_or, codes, decimal, sym, refl, ap, ◌∙◌, ⊎_elim, arith, length-append}
 use Rattle.std.proofs.lemmas.Fmt.{length-decimal-le}
-use Rattle.std.proofs.lemmas.Bool.{and_parts, ltb-true, both_ways}
+use Rattle.std.proofs.lemmas.Bool.{and_parts, ltb-true}
 use Rattle.semantics.specs.Shapes.{pick}
 use Rattle.semantics.specs.Parts.{Part}
 use Rattle.semantics.specs.declared.operation.Unary.{Unary}
@@ -13,7 +13,7 @@ use Rattle.semantics.specs.Programs.{Program}
 use Rattle.grammar.specs.Letters.{Flag, begins, closes, opens, Letter, letter, bytes, plain, plains, flagged}
 use Rattle.grammar.specs.Words.{Word, unary_word, binary_word, are_names, is_name, shaped, reserved, is_letter, all_in_word}
 use Rattle.grammar.specs.Constants.{read_expr, read_program}
-use Rattle.grammar.specs.Sayable.{Small, Smalls, SmallPart, SmallParts, Digits, none, more, Sixteen, Fits, fit_name, fit_input, fit_constant, fit_count, fit_each, fit_both, fit_choose, fit_fold, fit_scan, fit_shape, fit_turn, fit_part, fit_join, fit_rows, FitLines, fit_end, fit_be, fit_put, fit_show, fit_again}
+use Rattle.grammar.specs.Sayable.{Small, Smalls, SmallPart, SmallParts, none, more, Sixteen, Fits, fit_name, fit_input, fit_constant, fit_count, fit_each, fit_both, fit_choose, fit_fold, fit_scan, fit_shape, fit_turn, fit_part, fit_join, fit_rows, FitLines, fit_end, fit_be, fit_put, fit_show, fit_again}
 use Rattle.grammar.specs.Limits.{marks_in, marks_of, depth_of}
 use Rattle.grammar.specs.Written.{write_hex, write_number, write_item, write_items, write_more_items, write_part, write_parts, write_more_parts, write_expr, write_lines}
 use Rattle.grammar.specs.Texts.{Writing, letters, Reads}

@@ -1,14 +1,14 @@
 -- The automaton along lines: afterwards their steps are there, and it stands before a line again.
-use Rattle.std.proofs.Common.{◌≡◌, ℕ, ◌≤◌, List, [], ◌∷◌, ◌++◌, length, get_or, take, codes, refl, ◌∙◌, arith}
-use Rattle.semantics.specs.Programs.{Program, end, be, put, show, again}
+use Rattle.std.proofs.Common.{◌≡◌, ℕ, ◌≤◌, List, [], ◌∷◌, length, get_or, take, codes, refl, ◌∙◌, arith}
+use Rattle.semantics.specs.Programs.{Program}
 use Rattle.program.specs.declared.step.Step.{Step}
-use Rattle.grammar.specs.Letters.{Letter, letter, inside, begins, opens, closes, plain, plains, flagged}
+use Rattle.grammar.specs.Letters.{Letter, inside, begins, opens, closes, plain, plains, flagged}
 use Rattle.grammar.specs.Words.{Word, in_word, is_letter, is_digit}
 use Rattle.grammar.specs.Constants.{read_expr, read_program}
 use Rattle.grammar.specs.Sayable.{FitLines, fit_end, fit_be, fit_put, fit_show, fit_again, Sixteen}
 use Rattle.grammar.specs.Written.{write_expr, write_lines, write_number, write_parts}
 use Rattle.grammar.specs.Moves.{belongs, target_rest, target_step}
-use Rattle.grammar.specs.Automaton.{State, at}
+use Rattle.grammar.specs.Automaton.{at}
 use Rattle.grammar.specs.declared.symbol.Target.{Target}
 use Rattle.grammar.specs.declared.symbol.Bracket.{Bracket}
 use Rattle.grammar.specs.declared.symbol.Number.{Number}

@@ -1,16 +1,16 @@
 -- The automaton along hexadecimal digits and along what stands in brackets.
-use Rattle.std.proofs.Common.{◌≡◌, ℕ, zero, suc, ◌+◌, ◌-◌, ◌*◌, ◌<◌, ◌≤◌, Bool, true, false, eqb, ltb, leb, ◌⊎◌, List, [], ◌∷◌, ◌++◌, length, codes, decimal, sym, refl, ap, ◌∙◌, inl, inr, ⊎_elim, arith}
+use Rattle.std.proofs.Common.{◌≡◌, ℕ, suc, ◌+◌, ◌*◌, ◌<◌, ◌≤◌, Bool, true, false, List, [], ◌∷◌, length, codes, decimal, sym, refl, ap, ◌∙◌, ⊎_elim, arith}
 use Rattle.std.proofs.lemmas.Bool.{and_from, or_left, or_right, le-leb, lt-ltb, le-ltb, ne_eqb, cases_lt}
 use Rattle.semantics.specs.Shapes.{pick}
 use Rattle.semantics.specs.Parts.{Part}
 use Rattle.program.specs.declared.step.Step.{Step}
-use Rattle.grammar.specs.Letters.{Flag, inside, begins, Letter, letter, plain, plains, flagged}
-use Rattle.grammar.specs.Words.{Word, is_digit}
+use Rattle.grammar.specs.Letters.{inside, begins, Letter, letter, plain, plains, flagged}
+use Rattle.grammar.specs.Words.{Word}
 use Rattle.grammar.specs.Constants.{canonical, hex_value}
 use Rattle.grammar.specs.Sayable.{Small, Smalls, none, more, SmallPart, SmallParts, Digits}
 use Rattle.grammar.specs.Written.{hex_byte, write_hex, write_number, write_item, write_items, write_more_items, write_part, write_parts, write_more_parts}
-use Rattle.grammar.specs.Moves.{belongs, Move, move, moves, when, digit_move, is_hex, hex_of, hex_move, item_number, push}
-use Rattle.grammar.specs.Automaton.{State, at}
+use Rattle.grammar.specs.Moves.{belongs, moves, digit_move, is_hex, hex_of, hex_move, item_number, push}
+use Rattle.grammar.specs.Automaton.{at}
 use Rattle.grammar.specs.declared.symbol.Bracket.{Bracket}
 use Rattle.grammar.specs.declared.symbol.Number.{Number}
 use Rattle.grammar.specs.declared.symbol.Symbol.{Symbol}

@@ -1,11 +1,11 @@
 -- The automaton along a name.
-use Rattle.std.proofs.Common.{◌≡◌, ℕ, zero, suc, ◌+◌, ◌<◌, ◌≤◌, Bool, true, false, not, ◌&&◌, ◌||◌, eqb, ltb, leb, ◌⊎◌, List, [], ◌∷◌, ◌++◌, length, sym, refl, ap, ◌∙◌, subst, ap₂, inl, inr, ⊎_elim, append_assoc, arith, length-append}
+use Rattle.std.proofs.Common.{◌≡◌, ℕ, ◌≤◌, Bool, true, not, ◌||◌, ltb, List, [], ◌∷◌, ◌++◌, length, sym, refl, ap, ◌∙◌, subst, ⊎_elim, append_assoc, arith, length-append}
 use Rattle.std.proofs.lemmas.Bool.{and_from, and_parts, or_left, or_right, or_cases}
 use Rattle.program.specs.declared.step.Step.{Step}
-use Rattle.grammar.specs.Letters.{Flag, inside, begins, Letter, letter, plain, plains, flagged}
-use Rattle.grammar.specs.Words.{Word, in_word, all_in_word, is_name, is_some, begins_some, itself, shaped, reserved}
-use Rattle.grammar.specs.Moves.{belongs, Move, move, moves, when, can_name, viable_name, viable}
-use Rattle.grammar.specs.Automaton.{State, at}
+use Rattle.grammar.specs.Letters.{inside, Letter, plains}
+use Rattle.grammar.specs.Words.{Word, in_word, all_in_word, is_name, is_some, itself, shaped, reserved}
+use Rattle.grammar.specs.Moves.{belongs, move, moves, when, can_name, viable_name, viable}
+use Rattle.grammar.specs.Automaton.{at}
 use Rattle.grammar.specs.declared.symbol.Symbol.{Symbol}
 use Rattle.grammar.proofs.WordLaws.{shaped_front, is_some_is, begins_some_among}
 use Rattle.grammar.proofs.Along.{along, along_moves}

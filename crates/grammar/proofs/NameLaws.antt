@@ -1,11 +1,11 @@
 -- Spellings of names: no two alike, so that a name's place is its number; and a new name at their end keeps them so.
-use Rattle.std.proofs.Common.{◌≡◌, ℕ, zero, suc, ◌+◌, ◌<◌, ◌≤◌, Bool, true, false, not, ◌&&◌, ◌||◌, eqb, ltb, ◌⊎◌, List, [], ◌∷◌, ◌++◌, length, get_or, take, sym, refl, ap, ◌∙◌, subst, inl, inr, ⊎_elim, true≢false, arith, length-append}
+use Rattle.std.proofs.Common.{◌≡◌, ℕ, zero, suc, ◌<◌, ◌≤◌, Bool, true, false, not, ◌&&◌, List, [], ◌∷◌, ◌++◌, length, get_or, take, sym, refl, ap, subst, ⊎_elim, arith}
 use mathlib.Core.Bool.{false≢true}
-use Rattle.std.proofs.lemmas.Bool.{and_parts, and_from, or_cases, or_left, or_right, or_parts, or_from, not-true, not_from_false, cases_Bool, both_ways}
+use Rattle.std.proofs.lemmas.Bool.{and_parts, and_from, or_left, or_right, or_parts, or_from, not-true, not_from_false, cases_Bool, both_ways}
 use Rattle.semantics.specs.Shapes.{pick}
 use Rattle.grammar.specs.Words.{Word, same_word, is_some, itself, is_name, are_names}
 use Rattle.grammar.specs.Moves.{place}
-use Rattle.grammar.proofs.WordLaws.{same_word_is, same_word_refl, Among, here, there, is_some_among, is_some_is}
+use Rattle.grammar.proofs.WordLaws.{same_word_is, same_word_refl, Among, here, there, is_some_among}
 
 pub among_get_d : (ms : List Word) (k : ℕ) → k < length ms → Among (get_or ms k []) ms
 among_get_d [] k h = absurd (omega arith)

@@ -1,19 +1,16 @@
 -- A sound state always tells something: whatever has begun can be ended.
-use Rattle.std.proofs.Common.{◌≡◌, ℕ, zero, suc, ◌+◌, ◌<◌, ◌≤◌, Bool, true, false, ◌||◌, ◌⊎◌, List, [], ◌∷◌, ◌++◌, length, get_or, decimal, sym, refl, ap, ◌∙◌, subst, inl, inr, ⊎_elim, arith}
+use Rattle.std.proofs.Common.{◌≡◌, ℕ, zero, suc, ◌≤◌, false, List, [], ◌∷◌, ◌++◌, length, get_or, decimal, sym, refl, ap, ◌∙◌, subst, ⊎_elim, arith}
 use Rattle.std.proofs.lemmas.Bool.{or_cases}
-use Rattle.semantics.specs.Values.{Expr, input}
-use Rattle.semantics.specs.Programs.{end}
-use Rattle.semantics.specs.declared.operation.Binary.{Binary as Two}
+use Rattle.semantics.specs.Values.{input}
 use Rattle.semantics.specs.declared.operation.Binary.TheVariants.{Add}
 use Rattle.program.specs.declared.step.Step.{Step}
 use Rattle.grammar.specs.Letters.{Letter, letter, begins, plain, plains, flagged}
-use Rattle.grammar.specs.Words.{Word, are_names, begins_some, head_word, heads, unary_word, binary_word, binaries}
-use Rattle.grammar.specs.Sayable.{Small, Comes, known, new, Fits, fit_name, fit_input, fit_count, fit_each, fit_both, fit_choose, fit_fold, fit_scan, fit_shape, fit_turn, fit_part, fit_join, fit_rows, fit_end, Sixteen, Digits, none, more}
-use Rattle.grammar.specs.Written.{write_expr, write_lines, write_items}
+use Rattle.grammar.specs.Words.{Word, are_names, begins_some, head_word, heads, binary_word, binaries}
+use Rattle.grammar.specs.Sayable.{Comes, known, new, Fits, fit_name, fit_input, fit_count, fit_each, fit_both, fit_choose, fit_fold, fit_scan, fit_shape, fit_turn, fit_part, fit_join, fit_rows, fit_end, Sixteen, Digits, none, more}
+use Rattle.grammar.specs.Written.{write_expr, write_items}
 use Rattle.grammar.specs.Moves.{viable, viable_name}
-use Rattle.grammar.specs.Automaton.{State, stuck, at}
+use Rattle.grammar.specs.Automaton.{State, at}
 use Rattle.grammar.specs.declared.symbol.Head.{Head}
-use Rattle.grammar.specs.declared.symbol.Along.{Along}
 use Rattle.grammar.specs.declared.symbol.Target.{Target}
 use Rattle.grammar.specs.declared.symbol.Bracket.{Bracket}
 use Rattle.grammar.specs.declared.symbol.Number.{Number}

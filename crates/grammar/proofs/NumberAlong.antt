@@ -1,9 +1,9 @@
 -- The automaton along a number in decimal.
-use Rattle.std.proofs.Common.{◌≡◌, ℕ, zero, suc, ◌+◌, ◌-◌, ◌*◌, ◌/◌, ◌%◌, ◌^◌, ◌<◌, ◌≤◌, Bool, true, false, ◌&&◌, eqb, ltb, leb, List, [], ◌∷◌, ◌++◌, length, decimal, sym, refl, ap, ◌∙◌, subst, ap₂, arith, length-append}
+use Rattle.std.proofs.Common.{◌≡◌, ℕ, ◌+◌, ◌-◌, ◌*◌, ◌/◌, ◌%◌, ◌<◌, ◌≤◌, Bool, true, List, [], ◌∷◌, ◌++◌, length, decimal, refl, ap, ◌∙◌, arith, length-append}
 use Rattle.std.proofs.lemmas.Fmt.{decimal_by_steps}
 use Rattle.std.proofs.lemmas.Bool.{and_from, le-leb, lt-ltb}
 use Rattle.program.specs.declared.step.Step.{Step}
-use Rattle.grammar.specs.Letters.{Flag, inside, begins, Letter, letter, plain, plains, flagged}
+use Rattle.grammar.specs.Letters.{Flag, inside, Letter, letter, plain, plains, flagged}
 use Rattle.grammar.specs.Words.{Word, is_digit}
 use Rattle.grammar.specs.Sayable.{Small}
 use Rattle.grammar.specs.Moves.{belongs, Move, move, moves, when, digit_move}

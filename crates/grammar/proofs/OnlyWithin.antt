@@ -1,22 +1,20 @@
 -- Only the text of a program within the limits is taken.
-use Rattle.std.proofs.Common.{◌≡◌, ℕ, zero, suc, ◌+◌, ◌-◌, ◌*◌, ◌<◌, ◌≤◌, max, Bool, true, false, ◌&&◌, ◌||◌, eqb, ltb, leb, ◌⊎◌, List, [], ◌∷◌, ◌++◌, length, take, sym, refl, ap, ◌∙◌, subst, inl, inr, ⊎_elim, arith, length-append}
-use Rattle.std.proofs.lemmas.Bool.{both_ways, or_parts, ltb-false, cases_Bool, cases_lt}
-use Rattle.semantics.specs.Shapes.{pick}
+use Rattle.std.proofs.Common.{◌≡◌, ℕ, zero, suc, ◌+◌, ◌<◌, ◌≤◌, Bool, true, false, eqb, ltb, List, [], ◌∷◌, ◌++◌, length, take, sym, refl, ap, ◌∙◌, subst, ⊎_elim, arith, length-append}
+use Rattle.std.proofs.lemmas.Bool.{or_parts, ltb-false, cases_Bool, cases_lt}
 use Rattle.semantics.specs.Programs.{Program}
 use Rattle.grammar.specs.Letters.{Flag, inside, begins, opens, closes, Letter, letter, bytes, Tally, nothing, tally_flag, tally, tally_from}
 use Rattle.grammar.specs.Words.{Word, begins_some, binary_word, binaries}
-use Rattle.grammar.specs.Constants.{read_program}
 use Rattle.grammar.specs.Limits.{marks_of, depth_of}
-use Rattle.grammar.specs.Texts.{Writing, letters, Reads, GoesOn, TooMuch, Passes, over, taken, Judged, is_taken}
-use Rattle.grammar.specs.Moves.{Move, stop, move, moves, when, push, viable, viable_name}
-use Rattle.grammar.specs.Automaton.{State, stuck, at, start, settle, top_move, move_flag, next, next_flag, run, run_tally, is_stuck, too_much_in}
+use Rattle.grammar.specs.Texts.{Writing, letters, Reads, TooMuch, Passes, over, taken, Judged, is_taken}
+use Rattle.grammar.specs.Moves.{Move, move, moves, when, push, viable, viable_name}
+use Rattle.grammar.specs.Automaton.{State, stuck, at, start, settle, top_move, move_flag, next_flag, run, run_tally, too_much_in}
 use Rattle.grammar.specs.declared.symbol.Symbol.{Symbol}
-use Rattle.grammar.proofs.Accepts.{run_append, tally_append, writing_tally, goes_on_run}
+use Rattle.grammar.proofs.Accepts.{tally_append, writing_tally, goes_on_run}
 use Rattle.grammar.proofs.Counts.{marks_along, peak_along, level_flag, lines_add}
 use Rattle.grammar.proofs.EndsBack.{append_nil}
 use Rattle.grammar.proofs.Within.{first_bytes}
 use Rattle.grammar.proofs.Lengths.{length_bytes, marks_of_read, depth_of_read}
-use Rattle.grammar.proofs.Judges.{counted, flag_passes, counted_over, reads_goes_on, take_all, bytes_take}
+use Rattle.grammar.proofs.Judges.{counted, flag_passes, counted_over, reads_goes_on, take_all}
 
 take_one : (j : ℕ) (t : List ℕ) → j < length t → (b : ℕ) × (take (suc j) t ≡ take j t ++ b ∷ [])
 take_one j [] h = absurd (omega arith)

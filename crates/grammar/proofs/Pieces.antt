@@ -1,16 +1,15 @@
 -- The automaton along the fixed pieces of a text: each by computing it.
-use Rattle.std.proofs.Common.{◌≡◌, ℕ, suc, true, false, List, [], ◌∷◌, codes, refl}
+use Rattle.std.proofs.Common.{◌≡◌, ℕ, suc, true, List, [], ◌∷◌, codes, refl}
 use Rattle.semantics.specs.declared.operation.Unary.{Unary}
 use Rattle.semantics.specs.declared.operation.Unary.TheVariants.{Neg, Abs, Sqrt, Floor, Not}
 use Rattle.semantics.specs.declared.operation.Binary.{Binary}
 use Rattle.semantics.specs.declared.operation.Binary.TheVariants.{Add, Sub, Mul, Div, Less, Same, Least, Most}
 use Rattle.program.specs.declared.step.Step.{Step}
-use Rattle.grammar.specs.Letters.{Letter, letter, begins, opens, closes, plain, plains, flagged}
+use Rattle.grammar.specs.Letters.{Letter, letter, begins, plain, plains, flagged}
 use Rattle.grammar.specs.Words.{Word, unary_word, binary_word}
 use Rattle.grammar.specs.Moves.{along_step}
-use Rattle.grammar.specs.Automaton.{State, at}
+use Rattle.grammar.specs.Automaton.{at}
 use Rattle.grammar.specs.declared.symbol.Along.{Along}
-use Rattle.grammar.specs.declared.symbol.Target.{Target}
 use Rattle.grammar.specs.declared.symbol.Bracket.{Bracket}
 use Rattle.grammar.specs.declared.symbol.Number.{Number}
 use Rattle.grammar.specs.declared.symbol.Symbol.{Symbol}

@@ -7,7 +7,7 @@ use Rattle.semantics.specs.Programs.{Program}
 use Rattle.semantics.specs.declared.operation.Binary.{Binary as Two}
 use Rattle.program.specs.declared.step.Step.{Step}
 use Rattle.program.specs.Spelling.{items, slices, spell, spell_program}
-use Rattle.grammar.specs.Letters.{Letter, letter, begins, closes, plain, plains, flagged}
+use Rattle.grammar.specs.Letters.{Letter, begins, closes, plain, plains, flagged}
 use Rattle.grammar.specs.Words.{Word, binary_word}
 use Rattle.grammar.specs.Constants.{canonical, hex_value, read_expr, read_program}
 use Rattle.grammar.specs.Sayable.{Small, Smalls, SmallPart, SmallParts, Comes, Fits, FitLines, Sixteen, Digits}

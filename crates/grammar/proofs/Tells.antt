@@ -1,17 +1,16 @@
 -- What a state tells: letters that may still come, and all steps then. One byte backward it tells a letter more, and the same steps.
-use Rattle.std.proofs.Common.{◌≡◌, ℕ, ◌≤◌, Bool, true, false, List, [], ◌∷◌, ◌++◌, length, sym, refl, ap, ◌∙◌, subst}
-use Rattle.semantics.specs.Shapes.{pick}
+use Rattle.std.proofs.Common.{◌≡◌, ℕ, ◌≤◌, List, [], ◌∷◌, ◌++◌, length, sym, refl, ap, ◌∙◌}
 use Rattle.program.specs.declared.step.Step.{Step}
 use Rattle.grammar.specs.Letters.{Flag, Letter, letter, bytes}
 use Rattle.grammar.specs.Words.{Word}
 use Rattle.grammar.specs.Moves.{belongs, Move, stop, move, moves, Ended, no, ended, ends}
-use Rattle.grammar.specs.Automaton.{State, stuck, at, settle, settled, top_move, moved, next, run}
+use Rattle.grammar.specs.Automaton.{State, at, settle, settled, top_move, moved, next, run}
 use Rattle.grammar.specs.declared.symbol.Symbol.{Symbol}
 use Rattle.grammar.specs.Automaton.{onto}
 use Rattle.grammar.proofs.ExprAlong.{Spellings}
 use Rattle.grammar.proofs.Says.{SaysAll}
-use Rattle.grammar.proofs.Back.{Back, Backs, back_stop, back_move, moves_back, pick_told}
-use Rattle.grammar.proofs.EndsBack.{Front, EndsBack, ends_no, ends_so, ends_back}
+use Rattle.grammar.proofs.Back.{Back, Backs, back_move, moves_back, pick_told}
+use Rattle.grammar.proofs.EndsBack.{Front, EndsBack, ends_so, ends_back}
 use Rattle.grammar.proofs.Sound.{SoundState, sound_stuck, sound_at, sound_none, sound_more, word_begun, digits_small, settle_keep, next_keep}
 
 pub data Tells : State → List Letter → List Step → Type 0 where

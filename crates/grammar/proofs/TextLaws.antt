@@ -1,8 +1,7 @@
 -- The laws of texts, from what is proved of the automaton.
-use Rattle.std.proofs.Common.{◌≡◌, ℕ, List, [], sym, ap, ◌∙◌, subst}
-use Rattle.semantics.specs.Programs.{Program}
+use Rattle.std.proofs.Common.{sym, ◌∙◌, subst}
 use Rattle.grammar.specs.Texts.{Reads}
-use Rattle.grammar.specs.TextLaws.{Takes, TakesTexts, TakenAreTexts, StuckWhere, Answered, AnswersVerdict}
+use Rattle.grammar.specs.TextLaws.{TakesTexts, TakenAreTexts, StuckWhere, AnswersVerdict}
 use Rattle.grammar.proofs.Accepts.{reads_accepted, accepted_reads, goes_on_run, run_goes_on}
 use Rattle.grammar.proofs.Unspell.{same_from_spelled}
 use Rattle.grammar.proofs.Judges.{answer_right}

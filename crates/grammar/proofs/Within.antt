@@ -1,12 +1,11 @@
 -- A text of a program within the limits is refused nowhere.
-use Rattle.std.proofs.Common.{◌≡◌, ℕ, zero, suc, ◌+◌, ◌*◌, ◌<◌, ◌≤◌, max, Bool, true, false, ◌||◌, List, [], ◌∷◌, ◌++◌, length, take, sym, refl, ap, ◌∙◌, subst, inl, inr, ⊎_elim, arith}
+use Rattle.std.proofs.Common.{◌≡◌, ℕ, suc, ◌≤◌, false, List, [], ◌∷◌, length, take, sym, ap, ◌∙◌, ⊎_elim, arith}
 use lib.Seq.{take-append-le}
 use Rattle.std.proofs.lemmas.Bool.{both_ways, or_from, le-ltb}
 use Rattle.semantics.specs.Programs.{Program}
-use Rattle.grammar.specs.Letters.{Letter, bytes, Tally, nothing, tally, tally_from}
-use Rattle.grammar.specs.Constants.{read_program}
+use Rattle.grammar.specs.Letters.{bytes, Tally, nothing, tally}
 use Rattle.grammar.specs.Limits.{marks_of, depth_of}
-use Rattle.grammar.specs.Texts.{Writing, letters, Reads, BeginsOver, TooMuch, long, over, taken, Judged, is_taken}
+use Rattle.grammar.specs.Texts.{Writing, letters, Reads, TooMuch, long, over, taken, Judged, is_taken}
 use Rattle.grammar.specs.Automaton.{start, run_tally, too_much_in}
 use Rattle.grammar.proofs.Accepts.{writing_tally}
 use Rattle.grammar.proofs.Counts.{marks_along, peak_along, tally_marks, tally_peak, lines_add}

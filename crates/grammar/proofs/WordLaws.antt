@@ -1,9 +1,9 @@
 -- Words: what the tests on them tell.
-use Rattle.std.proofs.Common.{◌≡◌, ℕ, suc, ◌+◌, ◌<◌, ◌≤◌, Bool, true, false, ◌&&◌, ◌||◌, eqb, ltb, ◌⊎◌, List, [], ◌∷◌, ◌++◌, length, Some, None, Option, sym, refl, ap, ◌∙◌, subst, ap₂, inl, inr, ⊎_elim, arith, length-append}
+use Rattle.std.proofs.Common.{◌≡◌, ℕ, ◌<◌, Bool, true, false, ◌&&◌, ltb, List, [], ◌∷◌, ◌++◌, length, Some, None, sym, refl, ap, ◌∙◌, subst, ap₂, ⊎_elim, arith, length-append}
 use mathlib.Core.Bool.{false≢true}
-use Rattle.std.proofs.lemmas.Bool.{and_parts, and_from, or_cases, or_left, or_right, or_parts, eqb-true, eq-eqb, cases_Bool, ltb-true, lt-ltb}
+use Rattle.std.proofs.lemmas.Bool.{and_parts, and_from, or_cases, or_left, or_right, or_parts, eqb-true, eq-eqb, ltb-true, lt-ltb}
 use Rattle.semantics.specs.Shapes.{pick}
-use Rattle.grammar.specs.Words.{Word, same_word, begins_word, find, is_some, begins_some, all_in_word, in_word, is_letter, shaped}
+use Rattle.grammar.specs.Words.{Word, same_word, begins_word, find, is_some, begins_some, all_in_word, is_letter, shaped}
 
 pub same_word_is : (u w : Word) → same_word u w ≡ true → u ≡ w
 unfolding same_word

@@ -1,5 +1,5 @@
 -- How much a program is: its marks, and how deep its agains stand in one another.
-use Rattle.std.specs.Prelude.{ℕ, suc, ◌+◌, max, List, length}
+use Rattle.std.specs.Prelude.{ℕ, suc, ◌+◌, max, length}
 use Rattle.semantics.specs.Values.{Expr, name, input, constant, count, each, both, choose, fold, scan, shape_to, turn, part, join, rows}
 use Rattle.semantics.specs.Programs.{Program, end, be, put, show, again}
 

@@ -1,5 +1,5 @@
 -- What holds of texts: each is one program at most and has one verdict; and how the automaton answers for them.
-use Rattle.std.specs.Prelude.{◌≡◌, ℕ, ◌*◌, ◌≤◌, true, false, List, [], ◌∷◌, ◌++◌, length, take}
+use Rattle.std.specs.Prelude.{◌≡◌, ℕ, ◌*◌, ◌≤◌, true, false, List, [], ◌++◌, length, take}
 use Rattle.semantics.specs.Programs.{Program}
 use Rattle.program.specs.Spelling.{spell_program}
 use Rattle.grammar.specs.Letters.{Letter, bytes, nothing, tally}

@@ -1,11 +1,11 @@
 -- How a program is written: the one text that a program has, under spellings of its names. Constants stand here as they are written,
 -- as 16 hexadecimal digits; numbers are decimal without leading zeros.
-use Rattle.std.specs.Prelude.{ℕ, ◌+◌, Bool, true, false, List, [], ◌∷◌, codes, decimal, nat_lt, slice_index_or}
+use Rattle.std.specs.Prelude.{ℕ, ◌+◌, List, [], ◌∷◌, codes, decimal, nat_lt, slice_index_or}
 use Rattle.semantics.specs.Shapes.{pick}
 use Rattle.semantics.specs.Parts.{Part}
 use Rattle.semantics.specs.Values.{Expr, name, input, constant, count, each, both, choose, fold, scan, shape_to, turn, part, join, rows}
 use Rattle.semantics.specs.Programs.{Program, end, be, put, show, again}
-use Rattle.grammar.specs.Letters.{Flag, Letter, letter, begins, opens, closes, plain, plains, flagged}
+use Rattle.grammar.specs.Letters.{Letter, letter, begins, opens, closes, plain, plains, flagged}
 use Rattle.grammar.specs.Words.{Word, unary_word, binary_word}
 
 -- 0 to 9, a to f

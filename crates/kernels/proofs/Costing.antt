@@ -1,5 +1,5 @@
 -- What a tree takes, by the step that is read at its node.
-use Rattle.std.proofs.Common.{◌≡◌, ℕ, ◌+◌, ◌-◌, ◌*◌, ◌/◌, ◌<◌, ◌≤◌, max, List, [], ◌∷◌, length, get_or, sym, refl, ap, ◌∙◌, subst, ap₂, div-le_self, arith}
+use Rattle.std.proofs.Common.{◌≡◌, ℕ, ◌+◌, ◌<◌, ◌≤◌, max, List, length, refl, ap, ◌∙◌, ap₂, arith}
 use Rattle.semantics.specs.declared.operation.Unary.{Unary}
 use Rattle.semantics.specs.declared.operation.Binary.{Binary}
 use Rattle.semantics.specs.Values.{Expr, name, input, constant, count, each, both, choose, fold, scan, shape_to, turn, part, join, rows}
@@ -12,7 +12,7 @@ use Rattle.program.specs.Marks.{marks}
 use Rattle.program.specs.Words.{steps_in, At}
 use Rattle.program.specs.Spelling.{spell}
 use Rattle.program.specs.Standing.{steps_from, Skips, View, is_name, is_input, is_constant, is_count, is_each, is_both, is_choose, is_fold, is_scan, is_shape, is_turn, is_part, is_join, is_rows}
-use Rattle.program.proofs.Lengths.{length_spell, marks_some}
+use Rattle.program.proofs.Lengths.{length_spell}
 use Rattle.program.proofs.Nodes.{expr_view, expr_there, expr_further, length_from}
 use Rattle.program.proofs.Storing.{length_steps_in}
 use Rattle.kernels.specs.declared.cost.Cost.{Cost}

@@ -1,8 +1,8 @@
 -- Leaves: which view a name or an input is, and what the view shows where it is broadcast.
-use Rattle.std.proofs.Common.{◌≡◌, ℕ, zero, suc, ◌+◌, ◌-◌, ◌*◌, ◌/◌, ◌%◌, ◌^◌, ◌<◌, ◌≤◌, eqb, List, [], ◌∷◌, ◌++◌, map, length, get_or, take, drop, pos, ◌+ℤ◌, nat_abs, sym, refl, ap, ◌∙◌, subst, ap₂, ⊎_elim, add-mul, one-mul, div-add-mod', arith, length-append}
+use Rattle.std.proofs.Common.{◌≡◌, ℕ, zero, suc, ◌+◌, ◌-◌, ◌*◌, ◌/◌, ◌%◌, ◌<◌, ◌≤◌, eqb, List, [], ◌∷◌, ◌++◌, map, length, get_or, take, drop, pos, ◌+ℤ◌, nat_abs, sym, refl, ap, ◌∙◌, subst, ⊎_elim, add-mul, one-mul, div-add-mod', arith, length-append}
 use lib.IntN.{+ℤ_idr}
 use lib.Ieee.{Float}
-use Rattle.std.proofs.lemmas.Nat.{mod-mul-add, mod_below}
+use Rattle.std.proofs.lemmas.Nat.{mod-mul-add}
 use Rattle.std.proofs.lemmas.List.{get_or_past}
 use Rattle.std.proofs.lemmas.Bool.{cases_lt, ne_eqb}
 use Rattle.semantics.specs.Shapes.{pick, size, In, unflat}
@@ -22,10 +22,10 @@ use Rattle.kernels.specs.declared.slot.Slot.{Slot}
 use Rattle.kernels.specs.declared.slot.Slot.TheVariants.{Empty, Held}
 use Rattle.kernels.specs.Blocks.{StandFor}
 use Rattle.kernels.specs.Trees.{cell_number, Leaf, CellLeaf, leaf}
-use Rattle.kernels.specs.Filling.{SlotHolds, empty, held, Tabled, NameReady, CellFilled}
+use Rattle.kernels.specs.Filling.{SlotHolds, empty, held, NameReady, CellFilled}
 use Rattle.kernels.proofs.Narrowing.{spreads_few, narrow_own}
 use Rattle.kernels.proofs.Readings.{stand_same}
-use Rattle.kernels.proofs.Numbering.{unflat_last, length_unflat, last_axis}
+use Rattle.kernels.proofs.Numbering.{unflat_last}
 
 pub spread_of : {s w : List ℕ} → Spreads s w → Spread s w
 spread_of {s} {w} p = record { few = spreads_few p; inside = λ is h. in_inside (inside_narrow p (inside_in w is h)) }

@@ -1,16 +1,16 @@
 -- What a tree comes to, place by place.
-use Rattle.std.proofs.Common.{◌≡◌, ℕ, ◌+◌, ◌-◌, ◌≤◌, Bool, true, false, ◌&&◌, leb, List, [], ◌∷◌, length, get_or, sym, refl, ap, ◌∙◌, subst, ap₂, arith}
+use Rattle.std.proofs.Common.{◌≡◌, ℕ, ◌+◌, ◌-◌, Bool, true, false, ◌&&◌, leb, List, get_or, sym, refl, ap, ◌∙◌, subst, ap₂, arith}
 use Rattle.std.proofs.lemmas.Bool.{and_parts}
 use Rattle.semantics.specs.declared.operation.Unary.{Unary}
 use Rattle.semantics.specs.declared.operation.Binary.{Binary}
-use Rattle.semantics.specs.Shapes.{pick, size, In}
+use Rattle.semantics.specs.Shapes.{pick, size}
 use Rattle.semantics.specs.Broadcast.{fit, wide, narrow}
 use Rattle.semantics.specs.Arrays.{Array, constant_array, count_array, each_array, both_array, choose_array}
 use Rattle.semantics.specs.Values.{Expr, name, input, constant, count, each, both, choose, fold, scan, shape_to, turn, part, join, rows, Cell, none, some, Sizes, Value, fault, val, given, value, then, made, held, on_each, on_both, on_choose}
-use Rattle.semantics.proofs.Places.{Inside, inside_in, in_inside, length_inside}
+use Rattle.semantics.proofs.Places.{Inside, inside_in, length_inside}
 use Rattle.semantics.proofs.Inside.{Spreads, spreads_left, spreads_right, spreads_left_left, spreads_right_left}
 use Rattle.numbers.specs.Operations.{binary64}
-use Rattle.kernels.specs.Trees.{cell_number, tree, Fusable, Leaf, CellLeaf, leaf, Leaves, Plain, PlainConstants, Fused, TreesFuse}
+use Rattle.kernels.specs.Trees.{cell_number, tree, Fusable, CellLeaf, leaf, Leaves, Plain, PlainConstants, TreesFuse}
 use Rattle.kernels.proofs.Narrowing.{spreads_refl, spreads_trans, spreads_few, narrow_narrow, narrow_own}
 
 -- an array that was made is the one that it was made of

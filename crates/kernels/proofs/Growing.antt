@@ -1,5 +1,5 @@
 -- Blocks of a tree from those of its operands, by the step that is read at its node.
-use Rattle.std.proofs.Common.{◌≡◌, ℕ, ◌+◌, ◌-◌, ◌*◌, ◌<◌, ◌≤◌, max, List, [], ◌∷◌, length, get_or, sym, refl, ap, ◌∙◌, subst, mul-le-mul_right, add-mul, mul-le-mul_left, one-mul, arith}
+use Rattle.std.proofs.Common.{◌≡◌, ℕ, ◌+◌, ◌-◌, ◌*◌, ◌<◌, ◌≤◌, max, List, [], ◌∷◌, length, get_or, sym, refl, subst, mul-le-mul_right, add-mul, mul-le-mul_left, one-mul, arith}
 use lib.Ieee.{Float}
 use Rattle.semantics.specs.declared.operation.Unary.{Unary}
 use Rattle.semantics.specs.declared.operation.Binary.{Binary}
@@ -17,7 +17,7 @@ use Rattle.program.specs.Standing.{steps_from, Skips, View, is_name, is_input, i
 use Rattle.program.proofs.Nodes.{expr_view, expr_there, expr_further}
 use Rattle.kernels.specs.declared.slot.Slot.{Slot}
 use Rattle.kernels.specs.Blocks.{StandFor, Applied, Joined, Chosen}
-use Rattle.kernels.specs.Trees.{tree, cell_number, CellLeaf, Leaves}
+use Rattle.kernels.specs.Trees.{tree, CellLeaf, Leaves}
 use Rattle.kernels.specs.declared.cost.Cost.{Cost}
 use Rattle.kernels.specs.Filling.{Tabled, NameReady, InputReady, CellFilled, Ready, Filled, blocks, Able, Costs}
 

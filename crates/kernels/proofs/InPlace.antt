@@ -5,13 +5,12 @@ use Rattle.std.proofs.lemmas.List.{length-take-le, take_more}
 use Rattle.semantics.specs.declared.operation.Binary.{Binary}
 use Rattle.semantics.specs.Shapes.{size, unflat}
 use Rattle.semantics.specs.Arrays.{Array}
-use Rattle.semantics.specs.Values.{Expr, Cell, none, some}
+use Rattle.semantics.specs.Values.{Expr, some}
 use Rattle.semantics.specs.Broadcast.{narrow}
 use Rattle.encoding.specs.declared.shape.Shape.{Shape}
 use Rattle.encoding.specs.ShapeOf.{shape_of}
 use Rattle.encoding.specs.Words.{word8}
 use Rattle.encoding.specs.Format.{inputs_of}
-use Rattle.numbers.specs.Operations.{binary64}
 use Rattle.numbers.specs.Plain.{NoNan}
 use Rattle.numbers.specs.Standing.{StandsFor}
 use Rattle.program.specs.declared.step.Step.{Step}
@@ -20,10 +19,9 @@ use Rattle.program.specs.Words.{At}
 use Rattle.program.specs.Spelling.{spell}
 use Rattle.program.specs.Standing.{steps_from, Skips, View as Step-view, is_name, is_both}
 use Rattle.program.proofs.Nodes.{expr_view}
-use Rattle.views.specs.declared.view.Source.{Source}
 use Rattle.views.specs.declared.view.Source.TheVariants.{Area, Input}
 use Rattle.views.specs.declared.view.View.{View}
-use Rattle.views.specs.Views.{Good, Packed, Reaches, Holds}
+use Rattle.views.specs.Views.{Holds}
 use Rattle.views.specs.Copying.{Walk}
 use Rattle.views.proofs.Copies.{run_ends}
 use Rattle.kernels.specs.declared.slot.Slot.{Slot}
@@ -34,7 +32,7 @@ use Rattle.kernels.specs.Blocks.{at}
 use Rattle.kernels.specs.Reading.{along}
 use Rattle.kernels.specs.Trees.{tree, cell_number, Leaves}
 use Rattle.kernels.specs.Filling.{Ready, Filled, Able}
-use Rattle.kernels.specs.Operands.{Readable, Gives, Combined, Lined, ViewRun, FoundRun, GivesTree}
+use Rattle.kernels.specs.Operands.{Gives, Combined, Lined, ViewRun, FoundRun, GivesTree}
 use Rattle.kernels.proofs.Turns.{length_part}
 use Rattle.kernels.proofs.Readings.{part_word, along_run, along_bytes, bytes_end, packed_row, packed_short, row_walk, row_seen}
 use Rattle.kernels.proofs.Feeding.{own_number, slot_cell, narrow_front}

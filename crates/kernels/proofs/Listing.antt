@@ -1,5 +1,5 @@
 -- The numbers of an array, listed block after block.
-use Rattle.std.proofs.Common.{◌≡◌, ℕ, zero, suc, ◌+◌, ◌-◌, ◌*◌, ◌<◌, ◌≤◌, List, [], ◌∷◌, ◌++◌, length, get_or, sym, refl, ap, ◌∙◌, subst, ap₂, append_assoc, add-zero, zero-add, arith}
+use Rattle.std.proofs.Common.{◌≡◌, ℕ, zero, suc, ◌+◌, ◌*◌, ◌<◌, ◌≤◌, List, [], ◌∷◌, ◌++◌, length, get_or, sym, refl, ap, ◌∙◌, ap₂, append_assoc, add-zero, zero-add, arith}
 use Rattle.std.specs.List.{flat_map}
 use Rattle.semantics.specs.Shapes.{unflat, up_to}
 use Rattle.semantics.specs.Arrays.{Array}

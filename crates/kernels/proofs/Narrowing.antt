@@ -1,10 +1,10 @@
 -- A place seen from a narrower shape, and from a still narrower one.
-use Rattle.std.proofs.Common.{◌≡◌, ℕ, zero, suc, ◌+◌, ◌-◌, ◌<◌, ◌≤◌, Bool, true, false, eqb, ◌⊎◌, List, [], ◌∷◌, ◌++◌, length, get_or, drop, sym, refl, ap, ◌∙◌, subst, ap₂, inl, inr, append_assoc, arith, length-append, length-drop}
+use Rattle.std.proofs.Common.{◌≡◌, ℕ, suc, ◌+◌, ◌-◌, ◌<◌, ◌≤◌, eqb, ◌⊎◌, List, [], ◌∷◌, ◌++◌, length, drop, sym, refl, ap, ◌∙◌, subst, ap₂, inl, inr, append_assoc, arith, length-append, length-drop}
 use Rattle.std.proofs.lemmas.List.{drop-drop}
-use Rattle.semantics.specs.Shapes.{pick, In}
+use Rattle.semantics.specs.Shapes.{pick}
 use Rattle.semantics.specs.Broadcast.{pinned, narrow}
 use Rattle.semantics.proofs.Places.{Inside, no_axes, axis, length_inside}
-use Rattle.semantics.proofs.Inside.{Spreads, Under, none_under, under, inside_drop}
+use Rattle.semantics.proofs.Inside.{Spreads, Under, none_under, under}
 
 pub length_under : {s t : List ℕ} → Under s t → length s ≡ length t
 length_under none_under = refl

@@ -1,12 +1,12 @@
 -- Numbers of places, with the last axis taken off.
-use Rattle.std.proofs.Common.{◌≡◌, ℕ, zero, suc, ◌+◌, ◌-◌, ◌*◌, ◌/◌, ◌%◌, ◌<◌, ◌≤◌, List, [], ◌∷◌, ◌++◌, length, get_or, take, drop, ℤ, pos, ◌+ℤ◌, ◌*ℤ◌, sym, refl, ap, ◌∙◌, subst, ap₂, append_assoc, add_assoc, mul-le-mul_right, mul_assoc, add-mul, one-mul, mul-zero, div-add-mod', zero-add, zero-mul, mul-one, arith, length-append, length-take}
-use lib.IntN.{+ℤ_assoc, +ℤ_idl, zero-*ℤ}
+use Rattle.std.proofs.Common.{◌≡◌, ℕ, zero, suc, ◌+◌, ◌-◌, ◌*◌, ◌/◌, ◌%◌, ◌<◌, ◌≤◌, List, [], ◌∷◌, ◌++◌, length, get_or, take, ℤ, pos, ◌+ℤ◌, ◌*ℤ◌, sym, refl, ap, ◌∙◌, subst, ap₂, add_assoc, mul-le-mul_right, mul_assoc, add-mul, one-mul, mul-zero, div-add-mod', arith}
+use lib.IntN.{+ℤ_assoc, zero-*ℤ}
 use Rattle.std.proofs.lemmas.Nat.{div-mul-add, mod-mul-add, div_below, mod_below}
 use Rattle.std.proofs.lemmas.List.{take_more, take_all}
 use Rattle.std.proofs.lemmas.Int.{ints}
 use Rattle.semantics.specs.Shapes.{size, flat, unflat}
 use Rattle.semantics.specs.OrderLaws.{dot}
-use Rattle.semantics.proofs.Places.{Inside, no_axes, axis, inside_unflat, flat_unflat, unflat_flat, flat_below}
+use Rattle.semantics.proofs.Places.{Inside, no_axes, axis, inside_unflat, flat_unflat, unflat_flat}
 use Rattle.views.proofs.Integers.{times_add}
 
 pub size_last : (t : List ℕ) (d : ℕ) → size (t ++ d ∷ []) ≡ size t * d

@@ -1,12 +1,10 @@
 -- The numbers of a tree whose leaves are there are patterns.
-use Rattle.std.proofs.Common.{◌≡◌, ℕ, ◌<◌, List, [], ◌∷◌, sym, refl, ap, ◌∙◌, subst}
-use Rattle.semantics.specs.Shapes.{pick, In}
+use Rattle.std.proofs.Common.{ℕ, List}
 use Rattle.semantics.specs.Arrays.{Array}
-use Rattle.semantics.specs.Values.{Expr, name, input, constant, count, each, both, choose, fold, scan, shape_to, turn, part, join, rows, Cell, none, some}
+use Rattle.semantics.specs.Values.{Expr, name, input, constant, count, each, both, choose, fold, scan, shape_to, turn, part, join, rows, Cell}
 use Rattle.semantics.proofs.Places.{Inside, in_inside}
 use Rattle.semantics.proofs.Inside.{inside_narrow}
 use Rattle.semantics.proofs.Picks.{pick_both}
-use Rattle.numbers.specs.Operations.{binary64}
 use Rattle.numbers.specs.Patterns.{Pattern}
 use Rattle.numbers.proofs.Written.{one_pattern, two_pattern, of_pattern}
 use Rattle.kernels.specs.Trees.{tree, cell_number, CellLeaf, leaf, Leaves}

@@ -1,7 +1,7 @@
 -- Rows that are read, number by number.
 use Rattle.std.proofs.Common.{◌≡◌, ℕ, suc, ◌+◌, ◌-◌, ◌*◌, ◌/◌, ◌%◌, ◌^◌, ◌<◌, ◌≤◌, List, [], ◌∷◌, ◌++◌, length, get_or, take, drop, ℤ, pos, ◌+ℤ◌, ◌*ℤ◌, nat_abs, sym, refl, ap, ◌∙◌, subst, ap₂, one-mul, arith, get_or-drop, get_or-take, w64, SFits, to_z, of_z}
 use lib.IntN.{zero-*ℤ, *ℤ-zero, +ℤ_idr, +ℤ_assoc}
-use lib.Ieee.{Float, nan}
+use lib.Ieee.{Float}
 use Rattle.std.proofs.lemmas.Int.{to_z-of_z}
 use Rattle.std.proofs.lemmas.Nat.{mod_below}
 use Rattle.semantics.specs.Shapes.{size, flat, unflat}

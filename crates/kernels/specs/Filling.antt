@@ -1,5 +1,5 @@
 -- What is needed to fill a block with the numbers of a tree, and what the block then has.
-use Rattle.std.specs.Prelude.{◌≡◌, ℕ, suc, ◌+◌, ◌*◌, ◌<◌, ◌≤◌, max, List, [], ◌∷◌, length, take, drop, slice_index, slice_index_or, Float}
+use Rattle.std.specs.Prelude.{◌≡◌, ℕ, ◌+◌, ◌*◌, ◌<◌, ◌≤◌, max, List, length, take, drop, slice_index, slice_index_or, Float}
 use Rattle.semantics.specs.Shapes.{size, unflat, up_to}
 use Rattle.semantics.specs.Programs.{numbers_at}
 use Rattle.encoding.specs.Words.{written}

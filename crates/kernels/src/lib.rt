@@ -1,4 +1,6 @@
 // Loops over numbers.
+#![tactic(auto)]
+
 pub mod blocks;
 pub mod combining;
 pub mod cost;

@@ -1,13 +1,13 @@
 -- What the operations do to numbers, through the patterns that these stand for.
-use Rattle.std.proofs.Common.{◌≡◌, ℕ, Bool, true, false, cond, not, ◌||◌, T, pos, sym, refl, ap, ◌∙◌, ap₂}
-use lib.Ieee.{Float, fin, binary64, fits, is_nan, neg, add, sub, mul, div, lt, eq, of_int}
+use Rattle.std.proofs.Common.{◌≡◌, ℕ, Bool, false, cond, not, ◌||◌, T, pos, sym, ap, ◌∙◌, ap₂}
+use lib.Ieee.{Float, binary64, fits, is_nan, neg, add, sub, mul, div, lt, eq, of_int}
 use lib.Ieee.Fits.{cond-fits, neg-fits, add-fits, sub-fits, mul-fits, div-fits, of_int-fits}
 use Rattle.std.specs.Float as Floats
 use Rattle.semantics.specs.declared.operation.Unary.{Unary}
 use Rattle.semantics.specs.declared.operation.Unary.TheVariants.{Neg, Abs, Sqrt, Floor, Not}
 use Rattle.semantics.specs.declared.operation.Binary.{Binary}
 use Rattle.semantics.specs.declared.operation.Binary.TheVariants.{Add, Sub, Mul, Div, Less, Same, Least, Most}
-use Rattle.numbers.specs.Binary64.{read, write, flag, bits_one, bits_zero, neg_bits, abs_bits, sqrt_bits, floor_bits, truth_bits, not_bits, add_bits, sub_bits, mul_bits, div_bits, less_bits, same_bits, least_bits, most_bits, whole_bits}
+use Rattle.numbers.specs.Binary64.{read, write, flag, neg_bits, abs_bits, sqrt_bits, floor_bits, truth_bits, not_bits, add_bits, sub_bits, mul_bits, div_bits, less_bits, same_bits, least_bits, most_bits, whole_bits}
 use Rattle.numbers.specs.Operations.{unary_bits, binary_bits, binary64 as numbers}
 use Rattle.numbers.specs.Patterns.{Pattern}
 use Rattle.numbers.specs.Standing.{StandsFor, MadeOfOne, MadeOfTwo}

@@ -1,13 +1,13 @@
 -- Patterns that are no NaN's, by their bits.
-use Rattle.std.proofs.Common.{◌≡◌, ℕ, ◌+◌, ◌%◌, ◌^◌, ◌<◌, ◌≤◌, Bool, true, false, not, T, sym, refl, subst, arith}
+use Rattle.std.proofs.Common.{◌≡◌, ℕ, ◌+◌, ◌%◌, ◌^◌, ◌≤◌, Bool, true, false, not, T, sym, refl, subst, arith}
 use lib.Arith.{le→nltb}
-use lib.Bits.{bit_or, bit_and, or_add_and}
+use lib.Bits.{bit_or, or_add_and}
 use lib.Ieee.{binary64, nan_bits}
 use lib.Ieee.Bits.{nan_bits_above}
 use Rattle.std.proofs.lemmas.Nat.{and_le_l, and_le_r}
 use Rattle.std.proofs.lemmas.Bool.{cond-false}
 use Rattle.numbers.specs.Binary64.{canonical_bits, bits_nan}
-use Rattle.numbers.specs.Plain.{NoNan, Clear, Looked}
+use Rattle.numbers.specs.Plain.{NoNan, Looked}
 
 -- up to infinity's pattern, without the sign
 pub plain_below : (a : ℕ) → a % 2 ^ 63 ≤ 0x7ff0_0000_0000_0000 → NoNan a

@@ -1,6 +1,6 @@
 -- Every operation writes a value that the format holds, and what is written so is a pattern.
 use Rattle.std.proofs.Common.{◌≡◌, ℕ, zero, suc, ◌^◌, ◌<◌, Bool, true, false, cond, not, T, pos, sym, refl, ap, ◌∙◌, subst, lit<}
-use lib.Ieee.{Float, nan, inf, fin, binary64, fits, is_nan, nan_bits, to_bits, lt, of_int}
+use lib.Ieee.{Float, nan, inf, fin, binary64, fits, is_nan, nan_bits, to_bits, lt}
 use lib.Ieee.Fits.{nan-fits, inf-fits, round-fits, cond-fits, neg-fits, add-fits, sub-fits, mul-fits, div-fits, sqrt-fits, of_int-fits}
 use lib.Ieee.Bits.{of_bits-to_bits, to_bits-lt, of_bits-fits, to_bits-of_bits, nan_bits_is}
 use Rattle.std.specs.Float as Floats

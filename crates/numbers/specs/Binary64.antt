@@ -1,6 +1,6 @@
 -- Numbers are binary64, written as patterns of 64 bits. An operation reads its patterns, works on the numbers that they stand for, and writes a pattern.
 -- Reading knows one NaN, whatever its bits, and writing has one pattern for it, so no operation gives another.
-use Rattle.std.specs.Prelude.{ℕ, ◌^◌, Bool, true, false, cond, not, ◌||◌, pos, from_bits, is_nan, to_bits, Float}
+use Rattle.std.specs.Prelude.{ℕ, ◌^◌, Bool, false, cond, not, ◌||◌, pos, from_bits, is_nan, to_bits, Float}
 use Rattle.std.specs.Float.{binary64}
 use Rattle.std.specs.Float.Ieee.{nan_bits, neg, add, sub, mul, div, lt, eq, of_int, to_unsigned}
 use Rattle.std.specs.Float as Floats

@@ -1,5 +1,7 @@
 // binary64 on patterns of 64 bits: each operation reads its patterns, works on `f64`, and writes a
 // pattern. Every NaN that comes out has one pattern.
+#![tactic(auto)]
+
 mod arithmetic;
 mod compare;
 mod dispatch;

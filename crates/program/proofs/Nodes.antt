@@ -4,7 +4,7 @@ use Rattle.std.proofs.lemmas.List.{drop_more, drop_all, drop-drop}
 use Rattle.semantics.specs.declared.operation.Unary.{Unary}
 use Rattle.semantics.specs.declared.operation.Binary.{Binary}
 use Rattle.semantics.specs.Parts.{Part}
-use Rattle.semantics.specs.Values.{Expr, each}
+use Rattle.semantics.specs.Values.{Expr}
 use Rattle.semantics.specs.Programs.{Program, end}
 use Rattle.program.specs.declared.step.Step.{Step}
 use Rattle.program.specs.declared.step.Step.TheVariants.{End, Let, Put, Show, Again, Each, Both, Choose, Fold, Scan, Shape, Turn, Part as Cut, Join, Rows, Item, Slice}

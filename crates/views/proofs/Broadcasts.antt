@@ -1,15 +1,14 @@
 -- Shapes under each other, and strides of a wider shape.
-use Rattle.std.proofs.Common.{◌≡◌, ℕ, zero, suc, ◌+◌, ◌-◌, ◌*◌, ◌<◌, ◌≤◌, max, Bool, true, false, ◌&&◌, ◌||◌, eqb, ◌≢◌, List, [], ◌∷◌, ◌++◌, reverse, length, get_or, take, drop, set, replicate, ℤ, pos, ◌+ℤ◌, ◌*ℤ◌, sym, refl, ap, ◌∙◌, subst, ap₂, ⊎_elim, add-zero, add_assoc, add-one, arith, length-append, length-take, below_more}
+use Rattle.std.proofs.Common.{◌≡◌, ℕ, zero, suc, ◌+◌, ◌-◌, ◌<◌, ◌≤◌, max, Bool, true, false, ◌&&◌, ◌||◌, eqb, ◌≢◌, List, [], ◌∷◌, ◌++◌, reverse, length, get_or, take, drop, set, replicate, ℤ, pos, ◌+ℤ◌, ◌*ℤ◌, sym, refl, ap, ◌∙◌, subst, ap₂, ⊎_elim, add-zero, add_assoc, add-one, arith, length-append, below_more}
 use Rattle.std.proofs.lemmas.Bool.{ne_eqb, cases_lt}
 use lib.IntN.{*ℤ-zero, zero-*ℤ, +ℤ_idl}
-use Rattle.std.proofs.lemmas.List.{drop_more, drop_all, get_or-reverse, get_or-take, length-reverse, length-take-le, ext_get_or, take_more, get_or-set_same, get_or-set_other, take-replicate, append-nil, append_assoc, take_more_set, take_all}
-use Rattle.semantics.specs.Shapes.{pick, In}
+use Rattle.std.proofs.lemmas.List.{drop_more, drop_all, get_or-reverse, get_or-take, length-reverse, length-take-le, ext_get_or, get_or-set_same, get_or-set_other, take-replicate, append-nil, append_assoc, take_more_set, take_all}
+use Rattle.semantics.specs.Shapes.{pick}
 use Rattle.semantics.specs.Broadcast.{joins, joined, fit, wide, pinned, narrow}
 use Rattle.semantics.specs.Arrays.{Array}
 use Rattle.semantics.specs.OrderLaws.{dot}
-use Rattle.semantics.proofs.Places.{Inside, inside_in, in_inside, length_inside}
+use Rattle.semantics.proofs.Places.{inside_in, in_inside}
 use Rattle.semantics.proofs.Inside.{Spreads, Under, none_under, under, spreads_left, spreads_right, spreads_left_left, spreads_right_left, inside_narrow}
-use Rattle.encoding.specs.declared.shape.Shape.{Shape}
 use Rattle.encoding.specs.ShapeOf.{shape_of}
 use Rattle.views.specs.declared.view.View.{View}
 use Rattle.views.specs.Views.{Holds, Sees}

@@ -1,7 +1,7 @@
 -- Sums of products as the code has them, through the bits of its words.
-use Rattle.std.proofs.Common.{◌≡◌, ℕ, ◌+◌, ◌*◌, ◌^◌, ◌<◌, T, ℤ, pos, ◌+ℤ◌, ◌*ℤ◌, nat_abs, sym, refl, ap, ◌∙◌, subst, ap₂, arith, w64, Fits, SFits, to_z, of_z}
+use Rattle.std.proofs.Common.{◌≡◌, ℕ, ◌^◌, ◌<◌, T, ℤ, pos, ◌+ℤ◌, ◌*ℤ◌, nat_abs, sym, ap, ◌∙◌, subst, ap₂, arith, w64, Fits, SFits, to_z, of_z}
 use lib.Signed.{non_neg}
-use Rattle.std.proofs.lemmas.Int.{ints, to_z-of_z, to_z_pos}
+use Rattle.std.proofs.lemmas.Int.{to_z-of_z}
 
 -- a stride times an index
 pub mul_is : {z j : ℤ} {i : ℕ} → SFits w64 z → SFits w64 j → j ≡ pos i → to_z w64 (of_z w64 z) *ℤ to_z w64 (of_z w64 j) ≡ z *ℤ pos i

@@ -1,16 +1,16 @@
 -- Rows of places, and places axis by axis.
-use Rattle.std.proofs.Common.{◌≡◌, ℕ, zero, suc, ◌+◌, ◌-◌, ◌*◌, ◌^◌, ◌<◌, ◌≤◌, ◌≢◌, List, [], ◌∷◌, length, get_or, set, ℤ, pos, ◌+ℤ◌, ◌*ℤ◌, nat_abs, sym, refl, ap, ◌∙◌, subst, ap₂, add-zero, one-mul, zero-add, mul-one, arith, get_or-set_other, get_or-set_same, w64, SFits, to_z, of_z, below_more}
-use lib.IntN.{+ℤ_idr, +ℤ_assoc}
+use Rattle.std.proofs.Common.{◌≡◌, ℕ, ◌+◌, ◌-◌, ◌*◌, ◌^◌, ◌<◌, ◌≤◌, ◌≢◌, List, [], ◌∷◌, length, get_or, set, ℤ, pos, ◌+ℤ◌, ◌*ℤ◌, nat_abs, sym, ap, ◌∙◌, subst, add-zero, one-mul, mul-one, arith, get_or-set_other, get_or-set_same, w64, SFits, to_z, of_z, below_more}
+use lib.IntN.{+ℤ_idr}
 use Rattle.std.proofs.lemmas.Int.{to_z-of_z}
-use Rattle.semantics.specs.Shapes.{size, In, flat}
+use Rattle.semantics.specs.Shapes.{size, flat}
 use Rattle.semantics.specs.OrderLaws.{dot}
-use Rattle.semantics.proofs.Places.{Inside, no_axes, axis, inside_in, in_inside}
+use Rattle.semantics.proofs.Places.{Inside, no_axes, axis, inside_in}
 use Rattle.views.specs.declared.view.Source.{Source}
 use Rattle.views.specs.declared.view.Source.TheVariants.{Area, Input}
 use Rattle.views.specs.Walking.{Lies, Walks}
-use Rattle.views.specs.Views.{Reaches, number_from}
+use Rattle.views.specs.Views.{number_from}
 use Rattle.views.specs.Copying.{Moves, Walk, Copied}
-use Rattle.views.proofs.Walks.{dot_more, dot_none, walks_from, walks_more, lies_same}
+use Rattle.views.proofs.Walks.{walks_from, walks_more}
 
 module _ {o : Source} {area bs s : List ℕ} {zs : List ℤ} {from d : ℕ} {z : ℤ} (w : Walk o area bs (d ∷ s) (z ∷ zs) from) where
   pub walk_lies : {is : List ℕ} (i : ℕ) → i < d → Inside s is → Lies 0 w.high (pos from +ℤ z *ℤ pos i)

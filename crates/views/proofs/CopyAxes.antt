@@ -1,8 +1,8 @@
 -- Places axis by axis: the first axis, and the places behind it.
-use Rattle.std.proofs.Common.{◌≡◌, ℕ, zero, suc, ◌+◌, ◌-◌, ◌*◌, ◌/◌, ◌^◌, ◌<◌, ◌≤◌, ◌≢◌, List, [], ◌∷◌, ◌++◌, length, get_or, take, drop, set, ℤ, pos, ◌+ℤ◌, ◌*ℤ◌, nat_abs, sym, refl, ap, ◌∙◌, subst, ap₂, add-zero, mul-le-mul_right, mul_comm, add-mul, one-mul, mul-one, arith, length-append, length-drop, length-take, w64, SFits, to_z, of_z, below_more}
+use Rattle.std.proofs.Common.{◌≡◌, ℕ, zero, suc, ◌+◌, ◌-◌, ◌*◌, ◌/◌, ◌<◌, ◌≤◌, List, [], ◌∷◌, ◌++◌, length, get_or, take, drop, set, ℤ, pos, ◌+ℤ◌, ◌*ℤ◌, nat_abs, sym, refl, ap, ◌∙◌, subst, add-zero, mul-le-mul_right, add-mul, one-mul, mul-one, arith, length-drop, length-take, w64, SFits, to_z, of_z, below_more}
 use native.Mathlib.Nat.{mul-div_right}
 use borrow.Rule.Slice.PartMut.{put_mid}
-use lib.IntN.{+ℤ_idr, +ℤ_assoc}
+use lib.IntN.{+ℤ_assoc}
 use Rattle.std.proofs.lemmas.Int.{to_z-of_z}
 use Rattle.std.proofs.lemmas.List.{get_or_append_left, get_or-append_right, get_or-take, length-take-le, nil_from_length}
 use Rattle.std.proofs.lemmas.Slice.{first_rest}
@@ -12,8 +12,8 @@ use Rattle.semantics.proofs.Places.{Inside, no_axes, axis, inside_in, in_inside,
 use Rattle.views.specs.declared.view.Source.{Source}
 use Rattle.views.specs.Walking.{Lies, Walks}
 use Rattle.views.specs.Views.{Reaches, number_from}
-use Rattle.views.specs.Copying.{Moves, Walk, Copied}
-use Rattle.views.proofs.Walks.{dot_more, dot_none, walks_from, walks_inside, walks_more, lies_same}
+use Rattle.views.specs.Copying.{Walk, Copied}
+use Rattle.views.proofs.Walks.{dot_none, walks_from, lies_same}
 use Rattle.views.proofs.Rows.{no_place}
 use Rattle.views.proofs.Seeing.{reaches_less}
 

@@ -1,13 +1,9 @@
 -- A view depends only on the words that it looks into.
-use Rattle.std.proofs.Common.{◌≡◌, ℕ, ◌<◌, ◌≤◌, List, length, get_or, pos, nat_abs, sym, refl, ap, ◌∙◌, subst, arith}
-use Rattle.semantics.specs.Shapes.{In}
-use Rattle.semantics.specs.Arrays.{Array}
-use Rattle.encoding.specs.ShapeOf.{shape_of}
+use Rattle.std.proofs.Common.{◌≡◌, ℕ, ◌≤◌, List, length, get_or, nat_abs, refl, ap, ◌∙◌, arith}
 use Rattle.views.specs.declared.view.Source.{Source}
 use Rattle.views.specs.declared.view.Source.TheVariants.{Area, Input}
-use Rattle.views.specs.declared.view.View.{View}
-use Rattle.views.specs.Views.{Good, Reaches, Holds, address, number_from, seen}
-use Rattle.views.specs.Laws.{Kept, OnlyInside}
+use Rattle.views.specs.Views.{Reaches, address, number_from, seen}
+use Rattle.views.specs.Laws.{OnlyInside}
 use Rattle.views.proofs.Seeing.{good_lies}
 
 reaches_kept : (o : Source) (old new bs : List ℕ) (high : ℕ) → (o ≡ Area → high ≤ length new) → Reaches o old bs high → Reaches o new bs high

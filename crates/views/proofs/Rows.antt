@@ -1,11 +1,10 @@
 -- Strides of numbers that lie rows first.
-use Rattle.std.proofs.Common.{◌≡◌, ℕ, zero, suc, ◌+◌, ◌-◌, ◌*◌, ◌^◌, ◌<◌, ◌≤◌, List, [], ◌∷◌, length, get_or, take, drop, set, ℤ, pos, ◌+ℤ◌, ◌*ℤ◌, sym, refl, ap, ◌∙◌, subst, ap₂, mul-le-mul_right, mul_comm, arith}
+use Rattle.std.proofs.Common.{◌≡◌, ℕ, zero, suc, ◌+◌, ◌*◌, ◌<◌, ◌≤◌, List, [], ◌∷◌, length, get_or, take, drop, set, ℤ, pos, ◌+ℤ◌, ◌*ℤ◌, sym, refl, ap, ◌∙◌, ap₂, mul_comm, arith}
 use Rattle.std.proofs.lemmas.List.{drop_more}
-use Rattle.semantics.specs.Shapes.{size, In, flat}
+use Rattle.semantics.specs.Shapes.{size, flat}
 use Rattle.semantics.specs.OrderLaws.{dot}
 use Rattle.semantics.proofs.Places.{Inside, no_axes, axis, inside_in, length_inside}
 use Rattle.views.specs.Walking.{RowMajor, row_strides}
-use Rattle.views.proofs.Walks.{dot_none}
 
 pub dot_rows : {s is : List ℕ} → Inside s is → dot (row_strides s) is ≡ pos (flat s is)
 unfolding dot row_strides flat

@@ -1,5 +1,5 @@
 -- What a view shows, and what a view of a view shows.
-use Rattle.std.proofs.Common.{◌≡◌, ℕ, zero, suc, ◌+◌, ◌-◌, ◌*◌, ◌^◌, ◌<◌, ◌≤◌, List, [], ◌∷◌, length, get_or, ℤ, pos, ◌+ℤ◌, nat_abs, sym, refl, ap, ◌∙◌, subst, ap₂, zero-add, arith}
+use Rattle.std.proofs.Common.{◌≡◌, ℕ, suc, ◌+◌, ◌*◌, ◌^◌, ◌<◌, ◌≤◌, List, length, get_or, pos, ◌+ℤ◌, nat_abs, sym, ap, ◌∙◌, subst, ap₂, zero-add, arith}
 use Rattle.semantics.specs.Shapes.{size, In, flat, unflat, up_to}
 use Rattle.semantics.specs.Programs.{numbers_at}
 use Rattle.semantics.proofs.Listings.{numbers_at_is}
@@ -7,17 +7,17 @@ use Rattle.semantics.specs.Arrays.{Array}
 use Rattle.semantics.proofs.Places.{inside_in, in_inside, inside_unflat, flat_unflat, flat_below}
 use Rattle.encoding.specs.declared.header.Header.{Header}
 use Rattle.encoding.specs.ShapeOf.{shape_of}
-use Rattle.encoding.specs.Format.{shape_at, start_at, next_at, number_at, array_at}
+use Rattle.encoding.specs.Format.{shape_at, number_at, array_at}
 use Rattle.encoding.specs.Headers.{Heads}
 use Rattle.encoding.proofs.Formats.{next_at_is}
 use Rattle.encoding.proofs.Rows.{good_at_parts}
 use Rattle.views.specs.declared.view.Source.{Source}
 use Rattle.views.specs.declared.view.Source.TheVariants.{Area, Input}
 use Rattle.views.specs.declared.view.View.{View}
-use Rattle.views.specs.Walking.{Lies, Walks, RowMajor}
+use Rattle.views.specs.Walking.{Lies, RowMajor}
 use Rattle.views.specs.Copying.{Walk, Copied}
 use Rattle.views.proofs.Rows.{no_place}
-use Rattle.views.specs.Views.{Good, Reaches, Holds, Sees, Packed, Whole, Laid, address, number_from, seen}
+use Rattle.views.specs.Views.{Good, Reaches, Holds, Sees, Whole, Laid, address, number_from, seen}
 
 pub good_lies : (v : View) (is : List ℕ) → Good v → In (shape_of v.shape) is → Lies v.low v.high (address v is)
 unfolding address

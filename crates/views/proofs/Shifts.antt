@@ -1,17 +1,16 @@
 -- Views of a buffer that was moved down.
-use Rattle.std.proofs.Common.{◌≡◌, ℕ, ◌+◌, ◌-◌, ◌^◌, ◌<◌, ◌≤◌, List, length, get_or, ℤ, pos, ◌+ℤ◌, nat_abs, sym, refl, ap, ◌∙◌, subst, ap₂, arith}
+use Rattle.std.proofs.Common.{◌≡◌, ℕ, ◌+◌, ◌-◌, ◌^◌, ◌<◌, ◌≤◌, List, get_or, pos, nat_abs, sym, ap, ◌∙◌, subst, arith}
 use Rattle.std.proofs.lemmas.Int.{ints}
 use Rattle.semantics.specs.Shapes.{In}
 use Rattle.semantics.specs.Arrays.{Array}
 use Rattle.semantics.specs.OrderLaws.{dot}
 use Rattle.semantics.proofs.Places.{inside_in}
 use Rattle.encoding.specs.ShapeOf.{shape_of}
-use Rattle.views.specs.declared.view.Source.{Source}
-use Rattle.views.specs.declared.view.Source.TheVariants.{Area, Input}
+use Rattle.views.specs.declared.view.Source.TheVariants.{Area}
 use Rattle.views.specs.declared.view.View.{View}
-use Rattle.views.specs.Walking.{Lies, Walks}
+use Rattle.views.specs.Walking.{Lies}
 use Rattle.views.specs.Views.{Good, Reaches, Holds, address, number_from, seen}
-use Rattle.views.specs.Shifting.{Shifted, Moved}
+use Rattle.views.specs.Shifting.{Moved}
 use Rattle.views.proofs.Walks.{walks_from}
 use Rattle.views.proofs.Seeing.{good_lies}
 

@@ -1,26 +1,25 @@
 -- Parts by value, axis by axis.
-use Rattle.std.proofs.Common.{◌≡◌, ℕ, zero, suc, ◌+◌, ◌-◌, ◌*◌, ◌^◌, ◌<◌, ◌≤◌, Bool, true, false, ◌&&◌, ◌||◌, eqb, ltb, leb, List, [], ◌∷◌, ◌++◌, map, length, get_or, take, drop, set, ℤ, pos, ◌+ℤ◌, ◌*ℤ◌, neg_ℤ, sym, refl, ap, ◌∙◌, subst, ap₂, ⊎_elim, add-zero, mul-zero, add-one, arith, w64, SFits}
-use native.Mathlib.Nat.{sub-zero}
-use lib.IntN.{*ℤ-zero, zero-*ℤ, +ℤ_idr, +ℤ_assoc}
+use Rattle.std.proofs.Common.{◌≡◌, ℕ, zero, suc, ◌+◌, ◌-◌, ◌*◌, ◌^◌, ◌<◌, ◌≤◌, Bool, true, false, ◌&&◌, ltb, leb, List, [], ◌∷◌, ◌++◌, map, length, get_or, take, drop, set, ℤ, pos, ◌+ℤ◌, ◌*ℤ◌, neg_ℤ, sym, refl, ap, ◌∙◌, subst, ap₂, ⊎_elim, add-one, arith, w64, SFits}
+use lib.IntN.{zero-*ℤ, +ℤ_idr, +ℤ_assoc}
 use Rattle.std.proofs.lemmas.List.{drop_more, drop_all, take_more, take_more_set, map_push, length-map}
 use Rattle.std.proofs.lemmas.Int.{ints}
 use Rattle.std.proofs.lemmas.Bool.{le-leb, lt-ltb, ne_eqb, le-ltb, cases_lt}
-use Rattle.semantics.specs.Shapes.{pick, size, In}
+use Rattle.semantics.specs.Shapes.{pick}
 use Rattle.semantics.specs.Arrays.{Array, part_array}
 use Rattle.semantics.specs.OrderLaws.{dot}
 use Rattle.semantics.specs.Parts as meant
 use Rattle.semantics.specs.Parts.{part_fits, parts_fit, part_shape, place_of, places_of}
-use Rattle.semantics.proofs.Axes.{Reaches, fits_reaches, fits_step}
+use Rattle.semantics.proofs.Axes.{Reaches, fits_reaches}
 use Rattle.semantics.proofs.Parts.{Fitted, fitted_none, fitted_more, fitted, Shown, shown_none, shown_more, shown, inside_places}
-use Rattle.semantics.proofs.Places.{Inside, no_axes, axis, inside_in, in_inside, length_inside}
+use Rattle.semantics.proofs.Places.{Inside, axis, inside_in, in_inside, length_inside}
 use Rattle.encoding.specs.ShapeOf.{shape_of}
 use Rattle.views.specs.declared.part.Part.{Part}
 use Rattle.views.specs.declared.view.View.{View}
-use Rattle.views.specs.Walking.{Lies, Walks}
+use Rattle.views.specs.Walking.{Walks}
 use Rattle.views.specs.Views.{Good, Holds, Sees, address}
-use Rattle.views.specs.Slicing.{part_of, froms, part_stride, part_strides, Steps, AllSteps}
+use Rattle.views.specs.Slicing.{part_of, froms, part_stride, part_strides, AllSteps}
 use Rattle.views.proofs.Integers.{times_add, times_times, times_neg}
-use Rattle.views.proofs.Walks.{zeros, inside_zeros, dot_none, walks_from, walks_more, apart_fits, back_fits}
+use Rattle.views.proofs.Walks.{zeros, inside_zeros, walks_from, walks_more, apart_fits, back_fits}
 use Rattle.views.proofs.Seeing.{good_address, sees_good, sees_holds}
 use Rattle.views.proofs.Rows.{dot_take}
 

@@ -1,14 +1,13 @@
 -- Axes in another order.
-use Rattle.std.proofs.Common.{◌≡◌, ℕ, zero, suc, ◌+◌, ◌-◌, ◌^◌, ◌<◌, ◌≤◌, Bool, true, false, ◌&&◌, ◌||◌, eqb, List, [], ◌∷◌, ◌++◌, map, length, get_or, take, drop, set, ℤ, pos, ◌+ℤ◌, sym, refl, ap, ◌∙◌, subst, ap₂, add-one, arith, length-take}
-use Rattle.std.proofs.lemmas.List.{drop_more, drop_all, take_more, take_more_set, take_all, map_push, length-take-le}
-use Rattle.std.proofs.lemmas.Bool.{eq-eqb, ne_eqb, and_right}
-use Rattle.semantics.specs.Shapes.{In}
+use Rattle.std.proofs.Common.{◌≡◌, ℕ, zero, suc, ◌+◌, ◌-◌, ◌<◌, ◌≤◌, true, false, ◌&&◌, ◌||◌, eqb, List, [], ◌∷◌, ◌++◌, map, length, get_or, take, drop, set, ℤ, pos, ◌+ℤ◌, sym, refl, ap, ◌∙◌, subst, ap₂, arith}
+use Rattle.std.proofs.lemmas.List.{drop_more, drop_all, take_more, take_more_set, map_push, length-take-le}
+use Rattle.std.proofs.lemmas.Bool.{eq-eqb, ne_eqb}
 use Rattle.semantics.specs.Arrays.{Array, turn_array}
 use Rattle.semantics.specs.Orders.{among, all_among, is_order, turned, turned_back}
 use Rattle.semantics.specs.OrderLaws.{dot, turned_strides}
 use Rattle.semantics.proofs.Places.{inside_in, in_inside, length_inside}
 use Rattle.semantics.proofs.Inside.{inside_turned_back}
-use Rattle.semantics.proofs.Orders.{Ordered, ordered, length_turned, length_turned_back}
+use Rattle.semantics.proofs.Orders.{ordered, length_turned, length_turned_back}
 use Rattle.semantics.proofs.Strides.{dot_turned}
 use Rattle.encoding.specs.ShapeOf.{shape_of}
 use Rattle.views.specs.declared.view.View.{View}

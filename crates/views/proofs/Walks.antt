@@ -1,13 +1,11 @@
 -- Addresses, one axis after another.
-use Rattle.std.proofs.Common.{◌≡◌, ℕ, zero, suc, ◌+◌, ◌-◌, ◌*◌, ◌^◌, ◌<◌, ◌≤◌, List, [], ◌∷◌, length, get_or, take, drop, ℤ, pos, negsuc, ◌+ℤ◌, ◌*ℤ◌, neg_ℤ, sym, refl, ap, ◌∙◌, subst, ap₂, arith, w64, SFits}
+use Rattle.std.proofs.Common.{◌≡◌, ℕ, zero, suc, ◌+◌, ◌^◌, ◌<◌, List, [], ◌∷◌, length, get_or, drop, ℤ, pos, ◌+ℤ◌, ◌*ℤ◌, neg_ℤ, sym, refl, ap, ◌∙◌, subst, ap₂, arith, w64, SFits}
 use lib.IntN.{*ℤ-zero, +ℤ_idr, +ℤ_assoc}
 use Rattle.std.proofs.lemmas.List.{drop_more}
 use Rattle.std.proofs.lemmas.Int.{ints}
-use Rattle.semantics.specs.Shapes.{size, In, flat}
 use Rattle.semantics.specs.OrderLaws.{dot}
 use Rattle.semantics.proofs.Places.{Inside, no_axes, axis, inside_in, in_inside}
 use Rattle.views.specs.Walking.{Lies, Walks}
-use Rattle.views.proofs.Integers.{times_add, times_times, times_neg}
 
 pub dot_more : (z : ℤ) (zs : List ℤ) (i : ℕ) (is : List ℕ) → dot (z ∷ zs) (i ∷ is) ≡ z *ℤ pos i +ℤ dot zs is
 unfolding dot

@@ -1,5 +1,5 @@
 -- A view seen in a wider shape.
-use Rattle.std.specs.Prelude.{◌≡◌, ℕ, ◌≤◌, Bool, true, false, List, [], ◌∷◌, ◌++◌, length, replicate, ℤ, pos, ◌==◌}
+use Rattle.std.specs.Prelude.{ℕ, ◌≤◌, List, [], ◌∷◌, ◌++◌, length, replicate, ℤ, pos, ◌==◌}
 use Rattle.semantics.specs.Shapes.{pick, In}
 use Rattle.semantics.specs.Broadcast.{narrow}
 use Rattle.semantics.specs.Arrays.{Array}

@@ -1,5 +1,5 @@
 -- Numbers of a view's places, written out rows first.
-use Rattle.std.specs.Prelude.{◌≡◌, ℕ, ◌^◌, ◌<◌, ◌≤◌, List, ℤ, pos, ◌+ℤ◌, ◌*ℤ◌, slice_index, unsigned_abs}
+use Rattle.std.specs.Prelude.{◌≡◌, ℕ, ◌^◌, ◌<◌, List, ℤ, pos, ◌+ℤ◌, ◌*ℤ◌, slice_index, unsigned_abs}
 use Rattle.semantics.specs.Shapes.{In, flat}
 use Rattle.semantics.specs.OrderLaws.{dot}
 use Rattle.views.specs.declared.view.Source.{Source}

@@ -1,5 +1,5 @@
 -- What holds of views whatever else happens.
-use Rattle.std.specs.Prelude.{◌≡◌, ℕ, ◌+◌, ◌-◌, ◌<◌, ◌≤◌, List, length, slice_index}
+use Rattle.std.specs.Prelude.{◌≡◌, ℕ, ◌<◌, ◌≤◌, List, length, slice_index}
 use Rattle.semantics.specs.Arrays.{Array}
 use Rattle.views.specs.declared.view.Source.TheVariants.{Area}
 use Rattle.views.specs.declared.view.View.{View}

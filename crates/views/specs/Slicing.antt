@@ -1,5 +1,5 @@
 -- Parts by value, and the strides of a part.
-use Rattle.std.specs.Prelude.{ℕ, ◌<◌, Bool, true, false, List, [], ◌∷◌, map, length, ℤ, pos, ◌*ℤ◌, neg_ℤ, FitsSigned, nat_lt, slice_index_or}
+use Rattle.std.specs.Prelude.{ℕ, ◌<◌, List, [], ◌∷◌, length, ℤ, pos, ◌*ℤ◌, neg_ℤ, FitsSigned, nat_lt, slice_index_or}
 use Rattle.std.specs.Int.{w64}
 use Rattle.semantics.specs.Shapes.{pick}
 use Rattle.semantics.specs.Parts as meant

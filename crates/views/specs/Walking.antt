@@ -1,5 +1,5 @@
 -- Addresses of the places of a shape: by strides, from an address on.
-use Rattle.std.specs.Prelude.{◌≡◌, ℕ, ◌+◌, ◌<◌, ◌≤◌, List, [], ◌∷◌, ℤ, pos, ◌+ℤ◌}
+use Rattle.std.specs.Prelude.{◌≡◌, ℕ, ◌<◌, ◌≤◌, List, [], ◌∷◌, ℤ, pos, ◌+ℤ◌}
 use Rattle.semantics.specs.Shapes.{size, In, flat}
 use Rattle.semantics.specs.OrderLaws.{dot}
 

@@ -1,4 +1,6 @@
 // Views: an array that looks at numbers that lie somewhere already, by a shape, strides and a start.
+#![tactic(auto)]
+
 pub mod broadcast;
 pub mod copying;
 pub mod laws;

@@ -1,4 +1,4 @@
-use Rattle.std.proofs.Common.{◌≡◌, sym, refl, ap, ◌∙◌, arith}
+use Rattle.std.proofs.Common.{sym, ap, ◌∙◌, arith}
 use Rattle.encoding.specs.Format.{rank_at}
 use Rattle.semantics.specs.Shapes.{size}
 use Rattle.encoding.proofs.Formats.{rank_at_is, rank_at_past, start_at_is, next_at_is, shape_at_read, good_at_from}

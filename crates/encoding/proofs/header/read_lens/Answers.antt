@@ -1,6 +1,5 @@
-use Rattle.std.proofs.Common.{◌≡◌, ◌+◌, ◌*◌, ◌<◌, [], ◌∷◌, ◌++◌, length, sym, refl, ap, ◌∙◌, add-one, arith, length-set}
+use Rattle.std.proofs.Common.{◌<◌, length, sym, refl, arith, length-set}
 use Rattle.std.proofs.lemmas.List.{take_more_set}
-use Rattle.encoding.specs.Words.{word4}
 use Rattle.encoding.proofs.Formats.{words_at_none, words_at_more}
 use Rattle.encoding.proofs.header.read_lens.Goals as goal
 

@@ -1,5 +1,5 @@
-use Rattle.std.proofs.Common.{◌≡◌, ◌<◌, ◌≤◌, length, sym, refl, ap, ◌∙◌, subst, zero-add, arith}
-use Rattle.encoding.specs.Format.{behind, Row, row_at, stop}
+use Rattle.std.proofs.Common.{◌≡◌, ◌≤◌, length, sym, ap, ◌∙◌, subst, zero-add, arith}
+use Rattle.encoding.specs.Format.{behind, Row, stop}
 use Rattle.encoding.specs.Headers.{Flawed}
 use Rattle.encoding.proofs.Rows.{offsets_is, stop_is, row_at_head, head_on, flawed_not_good, row_at_bad, not_good_past}
 use Rattle.encoding.proofs.inputs.count_inputs.Goals as goal

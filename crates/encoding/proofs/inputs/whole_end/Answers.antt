@@ -1,4 +1,4 @@
-use Rattle.std.proofs.Common.{◌≡◌, ◌≤◌, length, sym, ap, ◌∙◌, arith}
+use Rattle.std.proofs.Common.{◌≤◌, length, sym, ap, ◌∙◌, arith}
 use Rattle.encoding.specs.Format.{behind, Row}
 use Rattle.encoding.proofs.Rows.{stop_is, row_at_head, head_on, flawed_not_good, row_at_bad, not_good_past}
 use Rattle.encoding.proofs.inputs.whole_end.Goals as goal

@@ -1,6 +1,6 @@
-use Rattle.std.proofs.Common.{◌≡◌, ◌+◌, ◌-◌, length, sym, refl, ap, ◌∙◌, arith}
+use Rattle.std.proofs.Common.{◌≡◌, ◌+◌, ◌-◌, ap, ◌∙◌, arith}
 use borrow.Rule.Slice.PartMut.{put_mid}
-use Rattle.encoding.specs.Words.{bytes8, written}
+use Rattle.encoding.specs.Words.{bytes8}
 use Rattle.encoding.proofs.Writings.{put_mid_written}
 use Rattle.encoding.proofs.writing.put_u64.Goals as goal
 

@@ -1,10 +1,10 @@
-use Rattle.std.proofs.Common.{◌≡◌, ℕ, ◌+◌, ◌*◌, ◌<◌, ◌≤◌, List, length, take, sym, refl, ap, ◌∙◌, arith}
+use Rattle.std.proofs.Common.{◌≡◌, ℕ, ◌+◌, ◌*◌, ◌≤◌, List, length, refl, ap, ◌∙◌, arith}
 use Rattle.std.proofs.lemmas.List.{length-take-le}
 use Rattle.encoding.specs.declared.shape.Shape.{Shape}
 use Rattle.encoding.specs.ShapeOf.{shape_of}
 use Rattle.encoding.specs.Words.{written}
 use Rattle.encoding.specs.Writing.{head_bytes, number_bytes, array_bytes}
-use Rattle.encoding.proofs.Writings.{written_written, length_written, length_head_bytes, length_number_bytes, length_array_bytes}
+use Rattle.encoding.proofs.Writings.{written_written, length_head_bytes, length_number_bytes, length_array_bytes}
 use Rattle.encoding.proofs.writing.write_array.Goals as goal
 
 -- the sizes of the three pieces, by rank and count

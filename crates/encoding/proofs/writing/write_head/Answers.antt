@@ -2,7 +2,6 @@ use Rattle.std.proofs.Common.{◌≡◌, ◌+◌, ◌<◌, ◌≤◌, length, ta
 use Rattle.std.specs.List.{flat_map}
 use Rattle.std.proofs.lemmas.List.{length-take-le}
 use Rattle.encoding.specs.Words.{bytes4, written}
-use Rattle.encoding.specs.Writing.{head_bytes}
 use Rattle.encoding.proofs.Writings.{written_none, written_more, written_head, length_bytes4, length_head_bytes}
 use Rattle.encoding.proofs.writing.write_head.Goals as goal
 

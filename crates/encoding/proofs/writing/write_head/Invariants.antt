@@ -1,4 +1,4 @@
-use Rattle.std.proofs.Common.{◌≡◌, ◌+◌, ◌*◌, ◌≤◌, ◌∷◌, length, take}
+use Rattle.std.proofs.Common.{◌≡◌, ◌+◌, take}
 use Rattle.std.specs.List.{flat_map}
 use Rattle.encoding.specs.Words.{bytes4, written}
 use Rattle.encoding.proofs.writing.write_head.Given as goal

@@ -1,4 +1,4 @@
-use Rattle.std.proofs.Common.{◌≡◌, ℕ, ◌<◌, ◌≤◌, length}
+use Rattle.std.proofs.Common.{◌≡◌, ℕ, ◌<◌, ◌≤◌}
 use Rattle.numbers.specs.Standing.{MadeOfOne}
 use Rattle.kernels.specs.Blocks.{at}
 use Rattle.kernels.proofs.blocks.apply_one.Given as goal

@@ -1,5 +1,5 @@
 use Rattle.std.proofs.Common.{◌<◌, length, subst, arith}
-use lib.Ieee.{Float, nan}
+use lib.Ieee.{nan}
 use Rattle.numbers.specs.Standing.{MadeOfTwo}
 use Rattle.kernels.specs.Blocks.{at}
 use Rattle.kernels.proofs.Turns.{set_below, set_behind}

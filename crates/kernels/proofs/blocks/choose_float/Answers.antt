@@ -1,4 +1,4 @@
-use Rattle.std.proofs.Common.{◌≡◌, ap, subst}
+use Rattle.std.proofs.Common.{ap, subst}
 use Rattle.semantics.specs.Shapes.{pick}
 use Rattle.numbers.specs.Standing.{StandsFor}
 use Rattle.kernels.proofs.blocks.choose_float.Goals as goal

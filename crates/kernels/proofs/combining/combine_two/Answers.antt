@@ -1,4 +1,4 @@
-use Rattle.std.proofs.Common.{◌≡◌, ℕ, ◌<◌, length, sym, subst, arith}
+use Rattle.std.proofs.Common.{ℕ, ◌<◌, length, sym, subst, arith}
 use lib.Ieee.{nan}
 use Rattle.numbers.specs.Operations.{binary64}
 use Rattle.numbers.specs.Standing.{StandsFor}

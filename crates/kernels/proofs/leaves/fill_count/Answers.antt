@@ -1,4 +1,4 @@
-use Rattle.std.proofs.Common.{◌≡◌, ℕ, ◌+◌, ◌-◌, ◌%◌, ◌<◌, ◌≤◌, min, eqb, List, [], ◌∷◌, ◌++◌, length, get_or, take, set, sym, refl, ap, ◌∙◌, subst, add_assoc, arith, length-take, get_or-take}
+use Rattle.std.proofs.Common.{◌≡◌, ℕ, ◌+◌, ◌-◌, ◌%◌, ◌<◌, eqb, [], ◌∷◌, ◌++◌, length, get_or, take, sym, ap, ◌∙◌, subst, add_assoc, arith, length-take, get_or-take}
 use lib.Ieee.{nan}
 use Rattle.std.proofs.lemmas.Nat.{mod_below}
 use Rattle.std.proofs.lemmas.List.{length-take-le}
@@ -9,7 +9,6 @@ use Rattle.encoding.specs.ShapeOf.{shape_of}
 use Rattle.encoding.specs.declared.shape.Shape.{Shape}
 use Rattle.numbers.specs.Operations.{binary64}
 use Rattle.numbers.specs.Standing.{StandsFor}
-use Rattle.kernels.specs.Blocks.{at}
 use Rattle.kernels.proofs.Narrowing.{spreads_few}
 use Rattle.kernels.proofs.Numbering.{last_axis, last_some}
 use Rattle.kernels.proofs.Readings.{stand_same}

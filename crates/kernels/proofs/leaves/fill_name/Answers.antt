@@ -1,8 +1,5 @@
-use Rattle.std.proofs.Common.{◌≡◌, ◌<◌, length, get_or, sym, ap, ◌∙◌, subst, arith}
-use Rattle.semantics.specs.Values.{none}
+use Rattle.std.proofs.Common.{◌≡◌, get_or, sym, ◌∙◌, subst, arith}
 use Rattle.encoding.specs.ShapeOf.{shape_of}
-use Rattle.views.specs.declared.view.View.{View}
-use Rattle.views.specs.Views.{Holds}
 use Rattle.views.specs.Broadcasting.{Spread}
 use Rattle.kernels.specs.declared.slot.Slot.TheVariants.{Empty, Held}
 use Rattle.kernels.specs.Filling.{CellFilled}

@@ -1,6 +1,4 @@
-use Rattle.std.proofs.Common.{◌≡◌, ◌+◌, ◌<◌, length, arith}
-use Rattle.semantics.specs.Shapes.{size}
-use Rattle.encoding.specs.ShapeOf.{shape_of}
+use Rattle.std.proofs.Common.{length, arith}
 use Rattle.kernels.proofs.Readings.{stand_same, packed_row, packed_short, row_walk, row_seen}
 use Rattle.kernels.proofs.leaves.fill_view.Goals as goal
 

@@ -1,4 +1,4 @@
-use Rattle.std.proofs.Common.{◌≡◌, ◌+◌, ◌%◌, sym, ap, ◌∙◌, arith}
+use Rattle.std.proofs.Common.{◌+◌, ap, ◌∙◌, arith}
 use Rattle.kernels.proofs.Feeding.{mod_round, mod_next}
 use Rattle.kernels.proofs.leaves.next_index.Goals as goal
 

@@ -1,6 +1,5 @@
-use Rattle.std.proofs.Common.{◌≡◌, ◌<◌, length, sym, refl, subst, arith}
+use Rattle.std.proofs.Common.{◌≡◌, ◌<◌, length, refl, arith}
 use lib.Ieee.{nan}
-use Rattle.numbers.specs.Standing.{StandsFor}
 use Rattle.kernels.proofs.Turns.{set_below}
 use Rattle.kernels.proofs.rows.fill_with.Goals as goal
 

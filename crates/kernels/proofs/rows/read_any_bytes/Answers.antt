@@ -1,4 +1,4 @@
-use Rattle.std.proofs.Common.{◌≡◌, ◌+◌, ◌*◌, ◌<◌, length, ap, ◌∙◌, arith}
+use Rattle.std.proofs.Common.{◌+◌, ◌*◌, ◌<◌, length, ap, ◌∙◌, arith}
 use lib.Ieee.{nan}
 use Rattle.encoding.specs.Format.{number_at}
 use Rattle.numbers.specs.Binary64.{canonical_bits}

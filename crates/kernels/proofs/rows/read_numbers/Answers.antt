@@ -1,4 +1,4 @@
-use Rattle.std.proofs.Common.{◌≡◌, ◌<◌, [], length, sym, refl, ap, ◌∙◌, arith, w64, to_z, of_z}
+use Rattle.std.proofs.Common.{◌<◌, [], length, ◌∙◌, arith, w64, to_z, of_z}
 use lib.Ieee.{nan}
 use Rattle.semantics.proofs.Places.{no_axes}
 use Rattle.numbers.specs.Standing.{StandsFor}

@@ -1,4 +1,4 @@
-use Rattle.std.proofs.Common.{◌≡◌, ◌+◌, ◌*◌, ◌<◌, length, sym, ◌∙◌, arith}
+use Rattle.std.proofs.Common.{◌+◌, ◌*◌, ◌<◌, length, sym, ◌∙◌, arith}
 use lib.Ieee.{nan}
 use Rattle.encoding.specs.Words.{word8}
 use Rattle.encoding.specs.Format.{number_at}

@@ -1,8 +1,8 @@
-use Rattle.std.proofs.Common.{◌≡◌, ℕ, ◌-◌, ◌%◌, ◌<◌, ◌≤◌, min, List, [], ◌∷◌, ◌++◌, length, get_or, take, pos, sym, refl, ap, ◌∙◌, subst, arith, get_or-take, w64, SFits, to_z, of_z, rules}
+use Rattle.std.proofs.Common.{◌≡◌, ◌-◌, ◌<◌, [], ◌∷◌, ◌++◌, length, get_or, take, pos, sym, ap, ◌∙◌, subst, arith, get_or-take, w64, SFits, rules}
 use Rattle.std.proofs.lemmas.Nat.{mod_below}
 use Rattle.std.proofs.lemmas.List.{length-take-le}
 use Rattle.std.proofs.lemmas.Int.{to_z-of_z}
-use Rattle.semantics.specs.Shapes.{size, unflat}
+use Rattle.semantics.specs.Shapes.{size}
 use Rattle.semantics.proofs.Places.{Inside, in_inside, inside_unflat}
 use Rattle.encoding.specs.ShapeOf.{shape_of}
 use Rattle.views.specs.Views.{address}

@@ -1,4 +1,4 @@
-use Rattle.std.proofs.Common.{◌+◌, length, arith}
+use Rattle.std.proofs.Common.{◌+◌, arith}
 use Rattle.semantics.specs.Shapes.{unflat}
 use Rattle.semantics.proofs.Places.{inside_unflat}
 use Rattle.encoding.specs.ShapeOf.{shape_of}

@@ -1,7 +1,6 @@
-use Rattle.std.proofs.Common.{◌≡◌, ℕ, ◌+◌, ◌-◌, ◌*◌, ◌<◌, ◌≤◌, min, length, take, sym, refl, ap, ◌∙◌, subst, arith, length-append, length-drop}
+use Rattle.std.proofs.Common.{◌≡◌, ◌+◌, ◌-◌, length, refl, subst, arith, length-append, length-drop}
 use borrow.Rule.Slice.PartMut.{post_of}
 use Rattle.std.proofs.lemmas.List.{length-take-le}
-use Rattle.semantics.specs.Shapes.{size}
 use Rattle.encoding.specs.ShapeOf.{shape_of}
 use Rattle.encoding.specs.Format.{inputs_of}
 use Rattle.kernels.specs.Filling.{Shown, tree_array}

@@ -1,4 +1,4 @@
-use Rattle.std.proofs.Common.{◌*◌, ◌/◌, ◌<◌, ◌≤◌, min, mul_comm, mul-le-mul_left, div-mul-le_self, arith}
+use Rattle.std.proofs.Common.{◌/◌, ◌≤◌, mul_comm, mul-le-mul_left, div-mul-le_self, arith}
 use Rattle.std.proofs.lemmas.Nat.{le-div}
 use Rattle.kernels.proofs.storing.block_length.Goals as goal
 

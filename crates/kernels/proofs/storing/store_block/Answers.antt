@@ -1,12 +1,11 @@
-use Rattle.std.proofs.Common.{◌≡◌, ℕ, ◌+◌, ◌-◌, ◌<◌, ◌≤◌, length, get_or, take, drop, sym, refl, ap, ◌∙◌, subst, arith}
-use borrow.Rule.Slice.PartMut.{put_mid}
+use Rattle.std.proofs.Common.{◌≡◌, ◌+◌, ◌-◌, ◌≤◌, length, take, ◌∙◌, subst, arith}
 use Rattle.std.proofs.lemmas.Slice.{take-put_mid_below, drop-put_mid}
 use Rattle.semantics.specs.Shapes.{unflat}
 use Rattle.semantics.proofs.Places.{inside_unflat}
 use Rattle.encoding.specs.ShapeOf.{shape_of}
 use Rattle.encoding.specs.Format.{inputs_of}
 use Rattle.kernels.specs.Trees.{tree}
-use Rattle.kernels.specs.Filling.{Ready, Able, Filled}
+use Rattle.kernels.specs.Filling.{Able, Filled}
 use Rattle.kernels.proofs.Patterned.{tree_pattern}
 use Rattle.kernels.proofs.Turns.{part_at, length_part}
 use Rattle.kernels.proofs.storing.store_block.Goals as goal

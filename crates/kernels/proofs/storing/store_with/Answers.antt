@@ -1,12 +1,11 @@
-use Rattle.std.proofs.Common.{◌≡◌, ℕ, ◌+◌, ◌-◌, ◌*◌, ◌<◌, ◌≤◌, min, length, get_or, take, drop, sym, refl, ap, ◌∙◌, subst, ⊎_elim, add_assoc, mul-le-mul_left, arith, length-append, length-drop, length-take}
-use borrow.Rule.Slice.PartMut.{put_mid, post_of}
-use Rattle.std.proofs.lemmas.List.{length-take-le, get_or-take, get_or-drop, drop-drop}
+use Rattle.std.proofs.Common.{◌≡◌, ◌+◌, ◌-◌, ◌<◌, length, get_or, take, sym, ap, ◌∙◌, ⊎_elim, arith, length-append, length-drop}
+use borrow.Rule.Slice.PartMut.{post_of}
+use Rattle.std.proofs.lemmas.List.{length-take-le}
 use Rattle.std.proofs.lemmas.Bool.{cases_lt}
-use Rattle.semantics.specs.Shapes.{size, unflat}
+use Rattle.semantics.specs.Shapes.{unflat}
 use Rattle.encoding.specs.ShapeOf.{shape_of}
 use Rattle.encoding.specs.Format.{inputs_of}
 use Rattle.kernels.specs.Trees.{tree}
-use Rattle.kernels.specs.Filling.{Ready, Able, blocks, Stored, PartStored}
 use Rattle.kernels.proofs.Costing.{ready_tree}
 use Rattle.kernels.proofs.Growing.{ready_same, block_able}
 use Rattle.kernels.proofs.Turns.{take_fewer, drop_more_same, get_d_front}

@@ -1,4 +1,4 @@
-use Rattle.std.proofs.Common.{◌≡◌, ◌+◌, ◌<◌, max, sym, refl, ap, ◌∙◌, ⊎_elim, arith}
+use Rattle.std.proofs.Common.{⊎_elim, arith}
 use Rattle.kernels.proofs.Growing.{skips_name, skips_input, skips_constant, skips_count}
 use Rattle.kernels.proofs.Costing.{tree_there, tree_step, tree_further, tree_each, tree_left, tree_right, tree_first, tree_second, tree_third, costs_name, costs_input, costs_constant, costs_count, costs_each, costs_both, costs_choose}
 use Rattle.kernels.proofs.trees.+cost_of.Goals as goal

@@ -1,8 +1,6 @@
-use Rattle.std.proofs.Common.{◌≡◌, ℕ, ◌+◌, ◌-◌, ◌<◌, ◌≤◌, length, sym, refl, ap, ◌∙◌, subst, arith}
-use Rattle.encoding.specs.ShapeOf.{shape_of}
+use Rattle.std.proofs.Common.{◌+◌, arith}
 use Rattle.program.proofs.Nodes.{expr_there}
 use Rattle.program.proofs.Storing.{length_steps_in}
-use Rattle.kernels.specs.Filling.{Able}
 use Rattle.kernels.proofs.Growing.{ready_name, ready_input, ready_count, ready_step, ready_there, able_each, able_left, able_right, able_first, able_second, able_third, able_same, able_further, filled_name, filled_input, filled_constant, filled_count, filled_each, filled_both, filled_choose, skips_name, skips_input, skips_constant, skips_count, skips_each, skips_both, skips_choose}
 use Rattle.kernels.proofs.InPlace.{own_gives, run_gives, filled_combined, able_whole}
 use Rattle.kernels.proofs.trees.+fill.Goals as goal

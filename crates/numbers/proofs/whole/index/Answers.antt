@@ -1,5 +1,4 @@
-use Rattle.std.proofs.Common.{◌≡◌, ◌^◌, cond, sym, ◌∙◌}
-use lib.Ieee.{eq}
+use Rattle.std.proofs.Common.{sym, ◌∙◌}
 use Rattle.std.proofs.lemmas.Bool.{cond-true, cond-false}
 use Rattle.numbers.specs.Operations.{binary64}
 use Rattle.numbers.proofs.Values.{at_index}

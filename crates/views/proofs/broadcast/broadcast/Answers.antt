@@ -1,11 +1,10 @@
-use Rattle.std.proofs.Common.{◌≡◌, ◌+◌, ◌-◌, ◌<◌, ◌≤◌, eqb, length, get_or, pos, ◌+ℤ◌, sym, refl, ap, ◌∙◌, subst, ap₂, add-zero, arith, length-set, length-take, get_or-take, w64, SFits, to_z, of_z, rules}
+use Rattle.std.proofs.Common.{◌≡◌, ◌-◌, ◌<◌, eqb, get_or, pos, ◌+ℤ◌, sym, refl, ap, ◌∙◌, ap₂, arith, length-set, length-take, get_or-take, w64, SFits, to_z, of_z, rules}
 use Rattle.semantics.specs.Shapes.{pick}
 use Rattle.std.proofs.lemmas.Int.{to_z-of_z}
 use Rattle.semantics.specs.Broadcast.{narrow}
 use Rattle.semantics.proofs.Places.{inside_in, length_inside}
 use Rattle.encoding.specs.ShapeOf.{shape_of}
 use Rattle.views.specs.Views.{address}
-use Rattle.views.specs.Broadcasting.{broadcast_array}
 use Rattle.views.proofs.Seeing.{sees_good}
 use Rattle.views.proofs.Broadcasts.{spread_none, spread_more, spread_all, broadcast_holds}
 use Rattle.views.proofs.broadcast.broadcast.Goals as goal

@@ -1,4 +1,4 @@
-use Rattle.std.proofs.Common.{◌≡◌, reverse, sym, refl, ap, ◌∙◌, ap₂, arith}
+use Rattle.std.proofs.Common.{reverse, arith}
 use Rattle.semantics.specs.Broadcast.{joined, wide}
 use Rattle.encoding.specs.ShapeOf.{shape_of}
 use Rattle.views.proofs.Broadcasts.{all_down, length_joined, length_last}

@@ -1,4 +1,4 @@
-use Rattle.std.proofs.Common.{◌≡◌, true, false, reverse, sym, refl, ap, ◌∙◌, ap₂, arith}
+use Rattle.std.proofs.Common.{true, false, reverse, sym, refl, ◌∙◌, arith}
 use Rattle.semantics.specs.Broadcast.{fit}
 use Rattle.encoding.specs.ShapeOf.{shape_of}
 use Rattle.views.proofs.Broadcasts.{fit_more, length_last, joins_left, joins_right}

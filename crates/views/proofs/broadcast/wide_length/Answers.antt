@@ -1,5 +1,5 @@
-use Rattle.std.proofs.Common.{◌≡◌, ◌-◌, ◌<◌, ◌≤◌, eqb, reverse, length, get_or, sym, refl, ap, ◌∙◌, ap₂, ⊎_elim, arith}
-use Rattle.std.proofs.lemmas.Bool.{eq-eqb, ne_eqb}
+use Rattle.std.proofs.Common.{reverse, get_or, sym, ap, ◌∙◌, ⊎_elim, arith}
+use Rattle.std.proofs.lemmas.Bool.{eq-eqb}
 use Rattle.semantics.specs.Shapes.{pick}
 use Rattle.encoding.specs.ShapeOf.{shape_of}
 use Rattle.views.proofs.Broadcasts.{from_last, length_last, get_d_joined_right, get_d_joined_left, get_d_joined_both, not_one}

@@ -1,10 +1,10 @@
-use Rattle.std.proofs.Common.{◌≡◌, ℕ, ◌+◌, ◌*◌, ◌/◌, ◌<◌, ◌≤◌, List, length, get_or, pos, ◌+ℤ◌, ◌*ℤ◌, nat_abs, sym, refl, ap, ◌∙◌, subst, arith, w32, w64, Fits, SFits, rules}
+use Rattle.std.proofs.Common.{◌≡◌, ℕ, ◌+◌, ◌*◌, ◌/◌, ◌<◌, ◌≤◌, List, length, get_or, pos, ◌+ℤ◌, ◌*ℤ◌, nat_abs, sym, ap, ◌∙◌, arith, w32, w64, Fits, SFits, rules}
 use Rattle.semantics.specs.Shapes.{size}
 use Rattle.semantics.specs.OrderLaws.{dot}
 use Rattle.views.specs.Views.{number_from}
 use Rattle.std.proofs.lemmas.Int.{to_z-of_z}
 use Rattle.views.proofs.Copies.{walk_steps, walk_next}
-use Rattle.views.proofs.CopyAxes.{rest, copied_none, walk_point, copied_point, row_walk, row_copied, walk_split, copied_join, Split, split, split_place, part_fits, axes_more, axes_part, axes_done, length_mid, length_rest}
+use Rattle.views.proofs.CopyAxes.{rest, copied_none, walk_point, copied_point, row_walk, row_copied, walk_split, copied_join, split, split_place, part_fits, axes_more, axes_part, axes_done, length_mid, length_rest}
 use Rattle.views.proofs.copying.+copy_axes.Goals as goal
 
 pub returns-then-out-eq0 : goal.returns-then-out-eq0

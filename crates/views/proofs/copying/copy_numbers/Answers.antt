@@ -1,4 +1,4 @@
-use Rattle.std.proofs.Common.{◌≡◌, ◌<◌, [], length, pos, ◌+ℤ◌, ◌*ℤ◌, nat_abs, sym, refl, ap, ◌∙◌, arith, w64, to_z, of_z}
+use Rattle.std.proofs.Common.{◌<◌, [], length, pos, ◌+ℤ◌, ◌*ℤ◌, nat_abs, sym, ap, ◌∙◌, arith, w64, to_z, of_z}
 use Rattle.semantics.proofs.Places.{no_axes}
 use Rattle.views.specs.declared.view.Source.TheVariants.{Input}
 use Rattle.views.specs.Views.{number_from}

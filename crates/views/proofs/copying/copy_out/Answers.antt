@@ -1,9 +1,7 @@
-use Rattle.std.proofs.Common.{◌≡◌, ◌-◌, ◌<◌, length, get_or, take, pos, sym, refl, ap, ◌∙◌, subst, zero-add, arith, length-take, rules}
+use Rattle.std.proofs.Common.{◌≡◌, ◌-◌, length, take, sym, refl, ap, ◌∙◌, subst, arith, length-take, rules}
 use native.Mathlib.Nat.{sub-zero}
-use Rattle.semantics.specs.Shapes.{size, flat}
-use Rattle.semantics.proofs.Listings.{numbers_at_is}
+use Rattle.semantics.specs.Shapes.{size}
 use Rattle.encoding.specs.ShapeOf.{shape_of}
-use Rattle.views.specs.Views.{address, seen}
 use Rattle.views.specs.Copying.{Walk, Copied}
 use Rattle.views.proofs.Seeing.{view_walk, copied_seen, seen_listed}
 use Rattle.views.proofs.Packs.{packed_walk, packed_seen}

@@ -1,4 +1,4 @@
-use Rattle.std.proofs.Common.{◌≡◌, [], ◌∷◌, length, sym, refl, ap, ◌∙◌, subst, arith, w64}
+use Rattle.std.proofs.Common.{[], ◌∷◌, length, sym, subst, w64}
 use Rattle.std.proofs.lemmas.Int.{to_z-of_z}
 use Rattle.views.specs.declared.view.Source.TheVariants.{Area, Input}
 use Rattle.views.specs.Copying.{Walk, Copied}

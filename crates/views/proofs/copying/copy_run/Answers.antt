@@ -1,4 +1,4 @@
-use Rattle.std.proofs.Common.{◌≡◌, ◌+◌, ◌-◌, ◌<◌, length, get_or, take, drop, sym, refl, ap, ◌∙◌, arith, get_or-drop, get_or-take}
+use Rattle.std.proofs.Common.{◌+◌, ◌-◌, ◌<◌, length, get_or, drop, ap, ◌∙◌, arith, get_or-drop, get_or-take}
 use Rattle.views.proofs.copying.copy_run.Goals as goal
 
 pub returns : goal.returns

@@ -1,4 +1,4 @@
-use Rattle.std.proofs.Common.{◌≡◌, ◌<◌, length, get_or, pos, ◌+ℤ◌, ◌*ℤ◌, nat_abs, sym, refl, ap, ◌∙◌, arith, w64, to_z, of_z}
+use Rattle.std.proofs.Common.{◌<◌, length, get_or, pos, ◌+ℤ◌, ◌*ℤ◌, nat_abs, sym, ap, arith, w64, to_z, of_z}
 use Rattle.semantics.proofs.Places.{no_axes}
 use Rattle.views.proofs.Copies.{walk_steps, walk_found, row_more}
 use Rattle.views.proofs.copying.copy_words.Goals as goal

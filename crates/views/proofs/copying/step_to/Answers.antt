@@ -1,8 +1,8 @@
-use Rattle.std.proofs.Common.{◌≡◌, pos, ◌+ℤ◌, ◌*ℤ◌, sym, refl, ap, ◌∙◌, arith, w64, SFits, to_z, of_z}
+use Rattle.std.proofs.Common.{◌≡◌, pos, ◌*ℤ◌, refl, ap, ◌∙◌, arith, w64, SFits, to_z, of_z}
 use Rattle.std.proofs.lemmas.Int.{to_z-of_z, to_z_pos}
 use Rattle.views.proofs.Walks.{apart_fits, lies_fits}
 use Rattle.views.specs.Walking.{Lies}
-use Rattle.views.proofs.Casts.{mul_is, add_is, kept_is, nat_casts}
+use Rattle.views.proofs.Casts.{add_is, kept_is, nat_casts}
 use Rattle.views.proofs.copying.step_to.Goals as goal
 
 pub overflow_cast-result-3 : goal.overflow_cast-result-3

@@ -1,10 +1,9 @@
-use Rattle.std.proofs.Common.{◌≡◌, ◌+◌, ◌<◌, ◌≤◌, min, length, get_or, take, drop, ℤ, pos, ◌+ℤ◌, ◌*ℤ◌, sym, refl, ap, ◌∙◌, subst, arith, length-take, w64, SFits, to_z, of_z, rules}
+use Rattle.std.proofs.Common.{◌≡◌, ◌+◌, ◌<◌, length, get_or, drop, pos, ◌+ℤ◌, ◌*ℤ◌, sym, ap, ◌∙◌, subst, arith, length-take, w64, SFits, to_z, of_z, rules}
 use lib.IntN.{+ℤ_idr, +ℤ_assoc}
 use Rattle.std.proofs.lemmas.List.{drop_all}
-use Rattle.std.proofs.lemmas.Int.{ints, to_z_pos}
-use Rattle.semantics.specs.Shapes.{In}
+use Rattle.std.proofs.lemmas.Int.{to_z_pos}
 use Rattle.semantics.specs.OrderLaws.{dot}
-use Rattle.semantics.proofs.Places.{Inside, no_axes, inside_in, length_inside, get_d_inside}
+use Rattle.semantics.proofs.Places.{inside_in, length_inside, get_d_inside}
 use Rattle.encoding.specs.ShapeOf.{shape_of}
 use Rattle.views.specs.Walking.{Walks, Lies}
 use Rattle.views.specs.Views.{address}

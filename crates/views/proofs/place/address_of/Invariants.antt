@@ -1,4 +1,4 @@
-use Rattle.std.proofs.Common.{◌≡◌, take, drop, ◌+ℤ◌}
+use Rattle.std.proofs.Common.{◌≡◌, drop, ◌+ℤ◌}
 use Rattle.semantics.specs.OrderLaws.{dot}
 use Rattle.encoding.specs.ShapeOf.{shape_of}
 use Rattle.views.specs.Walking.{Walks}

@@ -1,4 +1,4 @@
-use Rattle.std.proofs.Common.{◌≡◌, ◌<◌, min, length, get_or, take, sym, refl, ap, ◌∙◌, arith, length-take, get_or-take}
+use Rattle.std.proofs.Common.{◌<◌, refl, ◌∙◌, arith, length-take, get_or-take}
 use mathlib.Core.Bool.{false≢true}
 use Rattle.semantics.specs.Shapes.{In}
 use Rattle.views.proofs.place.is_place.Goals as goal

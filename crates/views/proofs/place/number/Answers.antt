@@ -1,7 +1,5 @@
-use Rattle.std.proofs.Common.{◌≡◌, ℕ, suc, ◌<◌, ◌≤◌, pos, nat_abs, sym, refl, ap, ◌∙◌, subst, arith}
-use Rattle.encoding.specs.ShapeOf.{shape_of}
-use Rattle.semantics.specs.Shapes.{In}
-use Rattle.views.specs.Views.{address, number_from, seen}
+use Rattle.std.proofs.Common.{nat_abs, sym, refl, ap, ◌∙◌}
+use Rattle.views.specs.Views.{number_from, seen}
 use Rattle.views.proofs.Seeing.{good_address, reaches_less}
 use Rattle.views.proofs.place.number.Goals as goal
 

@@ -1,4 +1,4 @@
-use Rattle.std.proofs.Common.{◌≡◌, sym, refl, ap, ◌∙◌}
+use Rattle.std.proofs.Common.{refl}
 use Rattle.views.specs.Views.{number_from}
 use Rattle.views.proofs.place.number_at.Goals as goal
 

@@ -1,4 +1,4 @@
-use Rattle.std.proofs.Common.{◌≡◌, sym, refl, ap, ◌∙◌, arith}
+use Rattle.std.proofs.Common.{refl, arith}
 use Rattle.encoding.specs.ShapeOf.{shape_of}
 use Rattle.views.proofs.Packs.{packed_from, packed_small, reshape_sees, shape_holds}
 use Rattle.views.proofs.reshape.reshape.Goals as goal

@@ -1,4 +1,4 @@
-use Rattle.std.proofs.Common.{◌≡◌, ◌+◌, ◌-◌, ◌^◌, ◌<◌, ◌≤◌, sym, refl, ap, ◌∙◌, subst, arith}
+use Rattle.std.proofs.Common.{◌≡◌, ◌+◌, ◌-◌, ◌^◌, ◌<◌, ◌≤◌, refl, arith}
 use Rattle.views.specs.declared.view.View.{View}
 use Rattle.views.proofs.Shifts.{Lower, lower_good, lower_holds}
 use Rattle.views.proofs.shift.shift_down.Goals as goal

@@ -1,4 +1,4 @@
-use Rattle.std.proofs.Common.{◌≡◌, ◌+◌, ◌<◌, true, false, ◌&&◌, map, length, get_or, drop, sym, refl, ap, ◌∙◌, ap₂, arith, length-take, get_or-take}
+use Rattle.std.proofs.Common.{◌+◌, ◌<◌, false, ◌&&◌, map, get_or, drop, sym, ap, ◌∙◌, arith, length-take, get_or-take}
 use Rattle.std.proofs.lemmas.List.{length-map}
 use Rattle.semantics.specs.Parts.{part_fits, parts_fit}
 use Rattle.encoding.specs.ShapeOf.{shape_of}

@@ -1,10 +1,10 @@
-use Rattle.std.proofs.Common.{◌≡◌, ℕ, ◌-◌, ◌<◌, ◌≤◌, min, List, map, length, take, pos, sym, refl, ap, ◌∙◌, subst, ap₂, arith, length-take, rules}
+use Rattle.std.proofs.Common.{◌≡◌, ℕ, min, List, map, length, take, pos, sym, refl, ap, ◌∙◌, subst, arith, length-take}
 use native.Mathlib.Nat.{sub-zero}
 use Rattle.std.proofs.lemmas.List.{length-map}
 use Rattle.semantics.specs.Shapes.{size, In, unflat}
-use Rattle.semantics.specs.Parts.{parts_fit, part_shape, places_of}
+use Rattle.semantics.specs.Parts.{part_shape, places_of}
 use Rattle.semantics.proofs.Places.{Inside, in_inside, inside_unflat}
-use Rattle.semantics.proofs.Parts.{Fitted, fitted}
+use Rattle.semantics.proofs.Parts.{fitted}
 use Rattle.encoding.specs.ShapeOf.{shape_of}
 use Rattle.views.specs.Views.{address}
 use Rattle.views.specs.Slicing.{part_of, froms}

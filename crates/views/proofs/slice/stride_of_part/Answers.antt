@@ -1,7 +1,6 @@
-use Rattle.std.proofs.Common.{◌≡◌, ◌<◌, ltb, ℤ, pos, ◌-ℤ◌, ◌*ℤ◌, neg_ℤ, sym, refl, ap, ◌∙◌, ap₂, arith, w64, SFits, to_z, of_z, rules}
+use Rattle.std.proofs.Common.{◌≡◌, pos, ◌-ℤ◌, ◌*ℤ◌, neg_ℤ, refl, ap, ◌∙◌, w64, SFits, rules}
 use lib.IntN.{+ℤ_idl}
 use Rattle.std.proofs.lemmas.Bool.{lt-ltb, le-ltb}
-use Rattle.semantics.specs.Shapes.{pick}
 use Rattle.views.specs.Slicing.{part_stride}
 use Rattle.views.proofs.Casts.{mul_is, kept_is}
 use Rattle.views.proofs.slice.stride_of_part.Goals as goal

@@ -1,7 +1,7 @@
-use Rattle.std.proofs.Common.{◌≡◌, ◌<◌, false, map, length, get_or, take, pos, sym, refl, ap, ◌∙◌, subst, ap₂, arith, length-set, w64, SFits, to_z, of_z, rules}
+use Rattle.std.proofs.Common.{◌≡◌, ◌<◌, false, map, length, get_or, take, pos, sym, refl, ap, ◌∙◌, arith, length-set, w64, SFits, rules}
 use Rattle.std.proofs.lemmas.List.{take_all}
 use Rattle.std.proofs.lemmas.Int.{to_z-of_z}
-use Rattle.views.specs.Slicing.{part_of, part_stride, part_strides, Steps}
+use Rattle.views.specs.Slicing.{part_of, part_stride, part_strides}
 use Rattle.views.proofs.Slices.{part_strides_more}
 use Rattle.views.proofs.slice.strides_of_parts.Goals as goal
 

@@ -1,5 +1,5 @@
-use Rattle.std.proofs.Common.{◌≡◌, suc, ◌+◌, ◌-◌, ◌*◌, ◌<◌, ◌≤◌, min, [], ◌∷◌, length, get_or, take, drop, set, pos, sym, refl, ap, ◌∙◌, subst, ap₂, mul_comm, sub-add_cancel, arith, length-set, length-take, get_or-take, w64, Fits, SFits, to_z}
-use Rattle.std.proofs.lemmas.List.{drop_all, drop_more, drop-set, length-take-le}
+use Rattle.std.proofs.Common.{◌≡◌, suc, ◌+◌, ◌-◌, ◌*◌, ◌<◌, [], ◌∷◌, length, get_or, take, drop, pos, sym, refl, ap, ◌∙◌, ap₂, mul_comm, arith, length-set, length-take, get_or-take, w64, to_z}
+use Rattle.std.proofs.lemmas.List.{drop_all, length-take-le}
 use Rattle.std.proofs.lemmas.Int.{to_z_pos}
 use Rattle.semantics.specs.Shapes.{size}
 use Rattle.encoding.specs.ShapeOf.{shape_of}

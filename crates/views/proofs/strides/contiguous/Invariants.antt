@@ -1,4 +1,4 @@
-use Rattle.std.proofs.Common.{◌≡◌, ◌<◌, length, take, drop}
+use Rattle.std.proofs.Common.{◌≡◌, length, take, drop}
 use Rattle.semantics.specs.Shapes.{size}
 use Rattle.encoding.specs.ShapeOf.{shape_of}
 use Rattle.views.specs.Walking.{row_strides}

@@ -1,4 +1,4 @@
-use Rattle.std.proofs.Common.{◌≡◌, ◌-◌, ◌&&◌, sym, refl, ap, ◌∙◌, arith}
+use Rattle.std.proofs.Common.{◌≡◌, ◌-◌, ◌&&◌, sym, ap, ◌∙◌, arith}
 use Rattle.semantics.specs.Orders.{all_among}
 use Rattle.views.proofs.Turns.{all_among_more, all_among_none, order_counted, order_short}
 use Rattle.views.proofs.transpose.is_axis_order.Goals as goal

@@ -1,4 +1,4 @@
-use Rattle.std.proofs.Common.{◌≡◌, ◌<◌, ◌≤◌, true, length, get_or, take, pos, sym, refl, ap, ◌∙◌, subst, arith, length-set, length-take, get_or-take, w64, SFits, to_z, of_z, rules}
+use Rattle.std.proofs.Common.{◌≡◌, ◌<◌, length, get_or, take, pos, sym, refl, ap, ◌∙◌, arith, length-set, get_or-take, w64, SFits, rules}
 use Rattle.std.proofs.lemmas.List.{take_all, length-take-le}
 use Rattle.std.proofs.lemmas.Int.{to_z-of_z}
 use Rattle.semantics.specs.Orders.{is_order, turned}

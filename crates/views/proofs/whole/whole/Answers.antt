@@ -1,4 +1,4 @@
-use Rattle.std.proofs.Common.{◌≡◌, refl, arith}
+use Rattle.std.proofs.Common.{refl, arith}
 use Rattle.encoding.specs.ShapeOf.{shape_of}
 use Rattle.views.proofs.Seeing.{whole_good}
 use Rattle.views.proofs.whole.whole.Goals as goal

@@ -1,4 +1,4 @@
-use Rattle.std.proofs.Common.{◌≡◌, ◌<◌, length, take, sym, refl, ap, ◌∙◌, arith}
+use Rattle.std.proofs.Common.{◌<◌, length, take, refl, arith}
 use Rattle.semantics.specs.Shapes.{size}
 use Rattle.encoding.proofs.Sizes.{size_more, min_mul_capped}
 use Rattle.encoding.proofs.shape.Shape.size.Goals as goal
