@@ -26,3 +26,4 @@ pub mod Counts
 pub mod Within
 pub mod OnlyWithin
 pub mod Canonicals
+pub mod Sought

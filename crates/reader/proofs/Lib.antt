@@ -1,4 +1,3 @@
-mod Sought
 mod Spelled
 mod Turnings
 mod Depths

@@ -1,4 +1,3 @@
-pub mod Tables
 pub mod Pushed
 pub mod Names
 pub mod Turning

@@ -7,11 +7,11 @@ ghost use Rattle.reader.specs.Names.{spellings};
 ghost use Rattle.reader.specs.Turning.{ended_of, Fit};
 
 use crate::follows::{head_rest, head_step, number_rest, number_step, target_rest, target_step};
-use crate::letters::{in_word, is_digit};
+use grammar::letters::{in_word, is_digit};
 use crate::names::{Span, name_of};
 use crate::pushes::making::{none, two};
 use crate::turn::Ending;
-use crate::words::{find_binary, find_head};
+use grammar::words::{find_binary, find_head};
 use grammar::symbol::{Along, Number, Symbol, Target};
 use program::step::Step;
 

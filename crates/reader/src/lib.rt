@@ -2,7 +2,6 @@
 mod endings;
 mod follows;
 pub mod judging;
-mod letters;
 mod machine;
 mod names;
 pub mod programs;
@@ -11,4 +10,3 @@ pub mod refusal;
 mod stepping;
 mod turn;
 mod turns;
-mod words;

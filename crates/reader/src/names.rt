@@ -4,7 +4,7 @@ ghost use Rattle.grammar.specs.Words.{begins_some, itself};
 ghost use Rattle.grammar.specs.Moves.{viable_name, viable};
 ghost use Rattle.reader.specs.Names.{part, spellings, Sought, Named};
 
-use crate::words::{begins_head, begins_word, is_name, is_shaped, same_word};
+use grammar::words::{begins_head, begins_word, is_name, is_shaped, same_word};
 
 // How many names a text may have.
 const MOST_NAMES: usize = 64;

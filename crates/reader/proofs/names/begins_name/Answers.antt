@@ -1,7 +1,7 @@
 use Rattle.std.proofs.Common.{◌≡◌, ◌<◌, ◌≤◌, [], length, get_or, sym, ap, ◌∙◌, arith}
 use Rattle.grammar.specs.Words.{begins_word, itself}
 use Rattle.reader.specs.Names.{spelling, spellings}
-use Rattle.reader.proofs.Sought.{begins_here, begins_on, begins_none}
+use Rattle.grammar.proofs.Sought.{begins_here, begins_on, begins_none}
 use Rattle.reader.proofs.Spelled.{length_spellings, spelling_at}
 use Rattle.reader.proofs.names.begins_name.Goals as goal
 

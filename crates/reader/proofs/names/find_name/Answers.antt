@@ -1,7 +1,7 @@
 use Rattle.std.proofs.Common.{◌≡◌, ◌<◌, ◌≤◌, [], length, get_or, sym, refl, ap, ◌∙◌, arith}
 use Rattle.grammar.specs.Words.{same_word, itself}
 use Rattle.reader.specs.Names.{spelling, spellings, absent, present}
-use Rattle.reader.proofs.Sought.{some_here, some_on, some_none}
+use Rattle.grammar.proofs.Sought.{some_here, some_on, some_none}
 use Rattle.reader.proofs.Spelled.{length_spellings, spelling_at, place_here, place_on, place_none}
 use Rattle.reader.proofs.names.find_name.Goals as goal
 

@@ -1,5 +1,0 @@
-use Rattle.reader.proofs.Sought.{same_is}
-use Rattle.reader.proofs.words.same_word.Goals as goal
-
-pub returns : goal.returns
-returns c = same_is c.args.a.now c.args.b.now c.eq.result c.eq.ensures
