@@ -5,6 +5,7 @@ mod Legal
 mod Replacing
 mod Keeping
 mod Settling
+mod Noting
 mod Lines
 mod AtEnd
 mod OnWay

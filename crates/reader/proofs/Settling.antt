@@ -6,7 +6,8 @@ use Rattle.semantics.specs.Shapes.{pick}
 use Rattle.program.specs.declared.step.Step.{Step}
 use Rattle.grammar.specs.declared.symbol.Symbol.{Symbol}
 use Rattle.grammar.specs.Words.{Word}
-use Rattle.grammar.specs.Moves.{belongs, no, ended, ends, stop, moves}
+use Rattle.grammar.specs.Letters.{Flag}
+use Rattle.grammar.specs.Moves.{belongs, no, ended, ends, stop, move, moves}
 use Rattle.grammar.specs.Automaton.{stuck, at, settled, settle, top_move, moved, next, move_flag, next_flag}
 use Rattle.reader.specs.declared.names.Span.{Span}
 use Rattle.reader.specs.declared.machine.Machine.{Machine}
@@ -15,10 +16,11 @@ use Rattle.reader.specs.declared.stepping.Advance.{Advance}
 use Rattle.reader.specs.declared.pushes.Pushes.{Pushes}
 use Rattle.reader.specs.declared.turn.Ending.{Ending}
 use Rattle.reader.specs.declared.turn.Turn.{Turn}
+use Rattle.reader.specs.declared.turn.Mark.{Mark}
 use Rattle.reader.specs.Pushed.{symbols_of}
 use Rattle.reader.specs.Names.{part, spelling, spellings}
 use Rattle.reader.specs.Turning.{ended_as, ended_of, move_as, move_of, flag_of, word_from, Fit}
-use Rattle.reader.specs.Machines.{state_of, Good, Fits, over, Replaced, Settled, Turned, Advanced}
+use Rattle.reader.specs.Machines.{state_of, Good, Fits, over, Replaced, Settled, Turned, Advanced, ReadOn}
 use Rattle.reader.proofs.Turnings.{part_none}
 use Rattle.reader.proofs.Spelled.{length_spellings}
 use Rattle.reader.proofs.Legal.{LegalEnd, ending, ends_legal}
@@ -45,7 +47,7 @@ fit_top : {s : Symbol} {ss : List Symbol} {v : ℕ} → Fits (s ∷ ss) v → Fi
 fit_top (over fit ps) = fit
 
 module _ (m : Machine) (s : Symbol) (there : m.top < length m.stack) (is : s ≡ get_or m.stack m.top Symbol.Lines) where
-  top_is : drop m.top m.stack ≡ s ∷ drop (m.top + 1) m.stack
+  pub top_is : drop m.top m.stack ≡ s ∷ drop (m.top + 1) m.stack
   top_is = drop_more m.stack m.top Symbol.Lines there ∙ ap (λ x. x ∷ drop (m.top + 1) m.stack) (sym is)
 
   pub fit_here : Fits (drop m.top m.stack) m.value → Fit s m.value
@@ -74,18 +76,16 @@ module _ (m : Machine) (s : Symbol) (there : m.top < length m.stack) (is : s ≡
     unfolding settled
     settle_none e k = settle_ends e ∙ ap (λ x. settled x out (drop (m.top + 1) m.stack)) (sym k)
 
-    pub settle_some : (x : Ending) (new : Machine) → false ≡ belongs s b → ended_as (names_of t m) (part t m.word i) x ≡ ends (names_of t m) s (part t m.word i) m.value
-        → names_of t new ≡ pick x.named (names_of t m ++ part t m.word i ∷ []) (names_of t m)
-        → Replaced m.stack m.top new.stack new.top (symbols_of x.pushes) → new.word ≡ i → new.value ≡ 0
-        → settle (state_of t i m out) b ≡ state_of t i new (option_to_list x.step ++ out)
+    pub settle_some : (ns : List Word) (es : List Step) (p : List Symbol) (new : Machine) → false ≡ belongs s b → ended ns es p ≡ ends (names_of t m) s (part t m.word i) m.value → names_of t new ≡ ns
+        → Replaced m.stack m.top new.stack new.top p → new.word ≡ i → new.value ≡ 0 → settle (state_of t i m out) b ≡ state_of t i new (es ++ out)
     unfolding settled state_of
-    settle_some x new e k names down word value =
+    settle_some ns es p new e k names down word value =
         settle_ends e
         ∙ (ap (λ y. settled y out (drop (m.top + 1) m.stack)) (sym k)
-        ∙ (ap (λ ns. at ns (option_to_list x.step ++ out) (symbols_of x.pushes ++ drop (m.top + 1) m.stack) [] 0) (sym names)
-        ∙ (ap (λ ss. at (names_of t new) (option_to_list x.step ++ out) ss [] 0) (sym down.is)
-        ∙ (ap (λ u. at (names_of t new) (option_to_list x.step ++ out) (drop new.top new.stack) u 0) (sym (ap (λ n. part t n i) word ∙ part_none t i))
-        ∙ ap (λ v. at (names_of t new) (option_to_list x.step ++ out) (drop new.top new.stack) (part t new.word i) v) (sym value)))))
+        ∙ (ap (λ ms. at ms (es ++ out) (p ++ drop (m.top + 1) m.stack) [] 0) (sym names)
+        ∙ (ap (λ ss. at (names_of t new) (es ++ out) ss [] 0) (sym down.is)
+        ∙ (ap (λ u. at (names_of t new) (es ++ out) (drop new.top new.stack) u 0) (sym (ap (λ n. part t n i) word ∙ part_none t i))
+        ∙ ap (λ v. at (names_of t new) (es ++ out) (drop new.top new.stack) (part t new.word i) v) (sym value)))))
 
   -- MOVING
 
@@ -99,21 +99,20 @@ module _ (m : Machine) (s : Symbol) (there : m.top < length m.stack) (is : s ≡
     move_none e =
         ap (λ x. moved x (state_of t i m out)) (top_move_here ∙ sym e) ∙ ap (λ ss. moved stop (at (names_of t m) out ss (part t m.word i) m.value)) top_is
 
-    pub move_some : (x : Turn) (new : Machine) → move_as t (i + 1) x ≡ moves (names_of t m) s (part t m.word i) m.value b
-        → names_of t new ≡ names_of t m → Replaced m.stack m.top new.stack new.top (symbols_of x.pushes) → part t new.word (i + 1) ≡ word_from t (i + 1) x.word → new.value ≡ x.value
-        → moved (top_move (state_of t i m out) b) (state_of t i m out) ≡ state_of t (i + 1) new (option_to_list x.step ++ out)
+    pub move_some : (f : Flag) (es : List Step) (p : List Symbol) (u : Word) (new : Machine) → move f es p u new.value ≡ moves (names_of t m) s (part t m.word i) m.value b
+        → names_of t new ≡ names_of t m → Replaced m.stack m.top new.stack new.top p → part t new.word (i + 1) ≡ u
+        → moved (top_move (state_of t i m out) b) (state_of t i m out) ≡ state_of t (i + 1) new (es ++ out)
     unfolding state_of moved
-    move_some x new e names down word value =
+    move_some f es p u new e names down word =
         ap (λ y. moved y (state_of t i m out)) (top_move_here ∙ sym e)
-        ∙ (ap (λ ss. moved (move_as t (i + 1) x) (at (names_of t m) out ss (part t m.word i) m.value)) top_is
-        ∙ (ap (λ ns. at ns (option_to_list x.step ++ out) (symbols_of x.pushes ++ drop (m.top + 1) m.stack) (word_from t (i + 1) x.word) x.value) (sym names)
-        ∙ (ap (λ ss. at (names_of t new) (option_to_list x.step ++ out) ss (word_from t (i + 1) x.word) x.value) (sym down.is)
-        ∙ (ap (λ u. at (names_of t new) (option_to_list x.step ++ out) (drop new.top new.stack) u x.value) (sym word)
-        ∙ ap (λ v. at (names_of t new) (option_to_list x.step ++ out) (drop new.top new.stack) (part t new.word (i + 1)) v) (sym value)))))
+        ∙ (ap (λ ss. moved (move f es p u new.value) (at (names_of t m) out ss (part t m.word i) m.value)) top_is
+        ∙ (ap (λ ns. at ns (es ++ out) (p ++ drop (m.top + 1) m.stack) u new.value) (sym names)
+        ∙ (ap (λ ss. at (names_of t new) (es ++ out) ss u new.value) (sym down.is)
+        ∙ ap (λ w. at (names_of t new) (es ++ out) (drop new.top new.stack) w new.value) (sym word))))
 
-    pub flag_here : (x : Turn) → move_as t (i + 1) x ≡ moves (names_of t m) s (part t m.word i) m.value b → move_flag (top_move (state_of t i m out) b) ≡ flag_of x.mark
+    pub flag_here : (f : Flag) (es : List Step) (p : List Symbol) (u : Word) (n : ℕ) → move f es p u n ≡ moves (names_of t m) s (part t m.word i) m.value b → move_flag (top_move (state_of t i m out) b) ≡ f
     unfolding move_flag
-    flag_here x e = ap move_flag (top_move_here ∙ sym e)
+    flag_here f es p u n e = ap move_flag (top_move_here ∙ sym e)
 
 -- an empty stack
 pub settle_empty : (m : Machine) (t : List ℕ) (i b : ℕ) (out : List Step) → length m.stack ≤ m.top → settle (state_of t i m out) b ≡ stuck
@@ -155,21 +154,33 @@ few_used t i spare m good = length_spellings t (take m.count m.names) ∙ length
 few_symbols : (p : Pushes) → length (symbols_of p) ≤ 8
 few_symbols p = omega (arith, length-take p.len p.at, p.few)
 
+pub less_room : (i : ℕ) (m : Machine) → Good i 16 m → Good i 8 m
+less_room i m good =
+    record {
+      few = good.few;
+      wide = good.wide;
+      spans = good.spans;
+      begun = good.begun;
+      deep = good.deep;
+      room = omega (arith, good.room);
+      fits = good.fits;
+    }
+
 pub settled_same : (t : List ℕ) (i b : ℕ) (m : Machine) → Good i 16 m → m.top < 2112 → true ≡ belongs (get_or m.stack m.top Symbol.Lines) b → Settled t i b m m (record { step = None })
 settled_same t i b m good there e =
     record {
       is = λ out. settle_goes m (get_or m.stack m.top Symbol.Lines) (omega (arith, good.wide)) refl t i b out e;
-      good = record { few = good.few; wide = good.wide; spans = good.spans; begun = good.begun; deep = good.deep; room = omega (arith, good.room); fits = good.fits };
+      good = less_room i m good;
     }
 
-pub settled_new : (t : List ℕ) (i b : ℕ) (m new : Machine) (x : Ending) → Good i 16 m → m.top < 2112 → false ≡ belongs (get_or m.stack m.top Symbol.Lines) b
-    → ended_as (names_of t m) (part t m.word i) x ≡ ends (names_of t m) (get_or m.stack m.top Symbol.Lines) (part t m.word i) m.value
-    → take new.count new.names ≡ pick x.named (take m.count m.names ++ record { from = m.word; to = i } ∷ []) (take m.count m.names) → new.count ≤ 64 → length new.names ≡ 64
-    → Replaced m.stack m.top new.stack new.top (symbols_of x.pushes) → new.word ≡ i → new.value ≡ 0 → Settled t i b m new (record { step = x.step })
-settled_new t i b m new x good there e k names few long down word value =
-    let is : (out : List Step) → settle (state_of t i m out) b ≡ state_of t i new (option_to_list x.step ++ out) =
-    λ out.
-    settle_some m (get_or m.stack m.top Symbol.Lines) (omega (arith, good.wide)) refl t i b out x new e k (names_more t m new i x.named (record { from = m.word; to = i }) refl refl names) down word value in
+pub settled_by : (t : List ℕ) (i b : ℕ) (m new : Machine) (ns : List Word) (step : Option Step) (p : List Symbol) → Good i 16 m → m.top < 2112 → false ≡ belongs (get_or m.stack m.top Symbol.Lines) b
+    → ended ns (option_to_list step) p ≡ ends (names_of t m) (get_or m.stack m.top Symbol.Lines) (part t m.word i) m.value
+    → names_of t new ≡ ns → new.count ≤ 64 → length new.names ≡ 64
+    → Replaced m.stack m.top new.stack new.top p → length p ≤ 8 → new.word ≡ i → new.value ≡ 0 → Settled t i b m new (record { step = step })
+settled_by t i b m new ns step p good there e k names few long down short word value =
+    let is : (out : List Step) → settle (state_of t i m out) b ≡ state_of t i new (option_to_list step ++ out) =
+    λ out. settle_some m (get_or m.stack m.top Symbol.Lines) (omega (arith, good.wide)) refl t i b out ns (option_to_list step) p new e k names down word value in
+    let after : Well (state_of t i new (option_to_list step ++ [])) = subst Well (is []) (well_settle (state_of t i m []) b (well_of t i 16 m [] good)) in
     record {
       is = is;
       good =
@@ -179,27 +190,35 @@ settled_new t i b m new x good there e k names few long down word value =
             spans = long;
             begun = omega arith;
             deep = omega (arith, down.down);
-            room = omega (arith, down.down, good.room, few_symbols x.pushes);
-            fits = fits_back t i new (option_to_list x.step ++ []) (subst Well (is []) (well_settle (state_of t i m []) b (well_of t i 16 m [] good)));
+            room = omega (arith, down.down, good.room);
+            fits = fits_back t i new (option_to_list step ++ []) after;
           };
     }
+
+pub settled_new : (t : List ℕ) (i b : ℕ) (m new : Machine) (x : Ending) → Good i 16 m → m.top < 2112 → false ≡ belongs (get_or m.stack m.top Symbol.Lines) b
+    → ended_as (names_of t m) (part t m.word i) x ≡ ends (names_of t m) (get_or m.stack m.top Symbol.Lines) (part t m.word i) m.value
+    → take new.count new.names ≡ pick x.named (take m.count m.names ++ record { from = m.word; to = i } ∷ []) (take m.count m.names) → new.count ≤ 64 → length new.names ≡ 64
+    → Replaced m.stack m.top new.stack new.top (symbols_of x.pushes) → new.word ≡ i → new.value ≡ 0 → Settled t i b m new (record { step = x.step })
+settled_new t i b m new x good there e k names few long down word value =
+    settled_by t i b m new (pick x.named (names_of t m ++ part t m.word i ∷ []) (names_of t m)) x.step (symbols_of x.pushes) good there e k
+    (names_more t m new i x.named (record { from = m.word; to = i }) refl refl names) few long down (few_symbols x.pushes) word value
 
 pub moves_at : (ns ns' : List Word) (t : List ℕ) (e : ℕ) (s : Symbol) (w : Word) (v b : ℕ) (x : Option Turn) → ns ≡ ns' → move_of t e x ≡ moves ns s w v b → move_of t e x ≡ moves ns' s w v b
 moves_at ns ns' t e s w v b x p h = h ∙ ap (λ m. moves m s w v b) p
 
-pub turned_new : (t : List ℕ) (i : ℕ) (m new : Machine) (x : Turn) → Good i 8 m → m.top < 2112
-    → move_as t (i + 1) x ≡ moves (names_of t m) (get_or m.stack m.top Symbol.Lines) (part t m.word i) m.value (get_or t i 0)
+pub turned_by : (t : List ℕ) (i : ℕ) (m new : Machine) (x : Mark) (step : Option Step) (p : List Symbol) (u : Word) → Good i 8 m → m.top < 2112
+    → move (flag_of x) (option_to_list step) p u new.value ≡ moves (names_of t m) (get_or m.stack m.top Symbol.Lines) (part t m.word i) m.value (get_or t i 0)
     → new.names ≡ m.names → new.count ≡ m.count
-    → Replaced m.stack m.top new.stack new.top (symbols_of x.pushes) → part t new.word (i + 1) ≡ word_from t (i + 1) x.word → new.word ≤ i + 1 → new.value ≡ x.value
-    → Turned t i m new (record { before = None; step = x.step; mark = x.mark })
-turned_new t i m new x good there k names count down word begun value =
+    → Replaced m.stack m.top new.stack new.top p → part t new.word (i + 1) ≡ u → new.word ≤ i + 1
+    → Turned t i m new (record { before = None; step = step; mark = x })
+turned_by t i m new x step p u good there k names count down word begun =
     let s = get_or m.stack m.top Symbol.Lines in
     let same : names_of t new ≡ names_of t m = ap (λ n. spellings t (take n new.names)) count ∙ ap (λ ns. spellings t (take m.count ns)) names in
-    let is : (out : List Step) → moved (top_move (state_of t i m out) (get_or t i 0)) (state_of t i m out) ≡ state_of t (i + 1) new (option_to_list x.step ++ out) =
-    λ out. move_some m s (omega (arith, good.wide)) refl t i (get_or t i 0) out x new k same down word value in
+    let is : (out : List Step) → moved (top_move (state_of t i m out) (get_or t i 0)) (state_of t i m out) ≡ state_of t (i + 1) new (option_to_list step ++ out) =
+    λ out. move_some m s (omega (arith, good.wide)) refl t i (get_or t i 0) out (flag_of x) (option_to_list step) p u new k same down word in
     record {
       is = is;
-      flag = λ out. flag_here m s (omega (arith, good.wide)) refl t i (get_or t i 0) out x k;
+      flag = λ out. flag_here m s (omega (arith, good.wide)) refl t i (get_or t i 0) out (flag_of x) (option_to_list step) p u new.value k;
       good =
           record {
             few = omega (arith, good.few);
@@ -208,9 +227,18 @@ turned_new t i m new x good there k names count down word begun value =
             begun = begun;
             deep = omega (arith, down.down);
             room = omega arith;
-            fits = fits_back t (i + 1) new (option_to_list x.step ++ []) (subst Well (is []) (well_moved (state_of t i m []) (get_or t i 0) (well_of t i 8 m [] good)));
+            fits = fits_back t (i + 1) new (option_to_list step ++ []) (subst Well (is []) (well_moved (state_of t i m []) (get_or t i 0) (well_of t i 8 m [] good)));
           };
     }
+
+pub turned_new : (t : List ℕ) (i : ℕ) (m new : Machine) (x : Turn) → Good i 8 m → m.top < 2112
+    → move_as t (i + 1) x ≡ moves (names_of t m) (get_or m.stack m.top Symbol.Lines) (part t m.word i) m.value (get_or t i 0)
+    → new.names ≡ m.names → new.count ≡ m.count
+    → Replaced m.stack m.top new.stack new.top (symbols_of x.pushes) → part t new.word (i + 1) ≡ word_from t (i + 1) x.word → new.word ≤ i + 1 → new.value ≡ x.value
+    → Turned t i m new (record { before = None; step = x.step; mark = x.mark })
+turned_new t i m new x good there k names count down word begun value =
+    turned_by t i m new x.mark x.step (symbols_of x.pushes) (word_from t (i + 1) x.word) good there
+    (ap (λ v. move (flag_of x.mark) (option_to_list x.step) (symbols_of x.pushes) (word_from t (i + 1) x.word) v) value ∙ k) names count down word begun
 
 -- one byte: what ended before it, and then the byte
 pub advanced_both : (t : List ℕ) (i : ℕ) (m mid new : Machine) (s : Said) (x : Advance) → Settled t i (get_or t i 0) m mid s → Turned t i mid new x → Advanced t i m new (record { before = s.step; step = x.step; mark = x.mark })
@@ -221,3 +249,8 @@ advanced_both t i m mid new s x first second =
       flag = λ out. ap (λ q. move_flag (top_move q (get_or t i 0))) (first.is out) ∙ second.flag (option_to_list s.step ++ out);
       good = second.good;
     }
+
+-- a byte before which nothing ends
+pub advanced_on : (t : List ℕ) (i : ℕ) (m new : Machine) (x : Mark) → Good i 16 m → ReadOn t i m new x → Advanced t i m new (record { before = None; step = None; mark = x })
+advanced_on t i m new x good on =
+    advanced_both t i m m new (record { step = None }) (record { before = None; step = None; mark = x }) (record { is = on.still; good = less_room i m good }) on.turned

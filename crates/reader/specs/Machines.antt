@@ -1,10 +1,13 @@
 -- The automaton's state that a machine stands for.
-use Rattle.std.specs.Prelude.{◌≡◌, ℕ, ◌+◌, ◌≤◌, List, [], ◌∷◌, ◌++◌, length, take, drop, Some, None, Option, slice_index}
+use Rattle.std.specs.Prelude.{◌≡◌, ℕ, ◌+◌, ◌≤◌, Bool, true, false, List, [], ◌∷◌, ◌++◌, length, take, drop, Some, None, Option, slice_index}
 use Rattle.std.specs.Option.{option_to_list}
 use Rattle.program.specs.declared.step.Step.{Step}
 use Rattle.grammar.specs.declared.symbol.Symbol.{Symbol}
+use Rattle.grammar.specs.declared.symbol.Target.{Target}
+use Rattle.grammar.specs.Words.{shaped, are_names}
 use Rattle.grammar.specs.Automaton.{State, stuck, at, settle, top_move, moved, move_flag, next, next_flag}
 use Rattle.reader.specs.declared.machine.Machine.{Machine}
+use Rattle.reader.specs.declared.turn.Mark.{Mark}
 use Rattle.reader.specs.declared.stepping.Said.{Said}
 use Rattle.reader.specs.declared.stepping.Advance.{Advance}
 use Rattle.reader.specs.Names.{part, spellings}
@@ -84,3 +87,55 @@ pub record Advanced (t : List ℕ) (i : ℕ) (old new : Machine) (x : Advance) :
 abbrev pub Advances : List ℕ → ℕ → Machine → Machine → Option Advance → Type 0
 Advances t i old new None = (out : List Step) → next (state_of t i old out) (slice_index t i) ≡ stuck
 Advances t i old new (Some x) = Advanced t i old new x
+
+-- BYTES READ IN PLACE
+
+-- what is noted beside the state, with i bytes of t read: a hint for each sum, names that are all names, and a word so
+-- far that is shaped as one, where that is noted
+pub record Hinted (t : List ℕ) (i : ℕ) (m : Machine) : Type 0 where
+  pub slots : length m.hints ≡ 256
+  pub named : are_names (spellings t (take m.count m.names)) ≡ true
+  pub shape : m.clean ≡ true → shaped (part t m.word i) ≡ true
+
+-- the byte at i belongs to the topmost symbol, and says no step
+pub record ReadOn (t : List ℕ) (i : ℕ) (old new : Machine) (mark : Mark) : Type 0 where
+  pub still : (out : List Step) → settle (state_of t i old out) (slice_index t i) ≡ state_of t i old out
+  pub turned : Turned t i old new (record { before = None; step = None; mark = mark })
+  pub hinted : Hinted t (i + 1) new
+
+-- whether it is so read; where it is not, nothing has changed
+abbrev pub ReadsOn : List ℕ → ℕ → Machine → Machine → Mark → Bool → Type 0
+ReadsOn t i old new mark true = ReadOn t i old new mark
+ReadsOn t i old new mark false = new ≡ old
+
+-- the word or number on top has ended before byte b
+pub record EndedNow (t : List ℕ) (i b : ℕ) (old new : Machine) (s : Said) : Type 0 where
+  pub settled : Settled t i b old new s
+  pub hinted : Hinted t i new
+
+-- whether it ends in one of the common ways; where it does not, nothing has changed
+abbrev pub EndsNow : List ℕ → ℕ → ℕ → Machine → Machine → Option Said → Type 0
+EndsNow t i b old new None = new ≡ old
+EndsNow t i b old new (Some s) = EndedNow t i b old new s
+
+-- one symbol more
+pub record Laid (old : List Symbol) (top : ℕ) (new : List Symbol) (low : ℕ) (s : Symbol) : Type 0 where
+  pub is : drop low new ≡ s ∷ drop top old
+  pub down : low + 1 ≡ top
+  pub long : length new ≡ length old
+
+-- several symbols more
+pub record LaidAll (old : List Symbol) (top : ℕ) (new : List Symbol) (low : ℕ) (p : List Symbol) : Type 0 where
+  pub is : drop low new ≡ p ++ drop top old
+  pub down : low + length p ≡ top
+  pub long : length new ≡ length old
+
+-- a word that is read
+pub data Spells : Symbol → Type 0 where
+  in_expression : Spells Symbol.Word
+  as_target : {x : Target} → Spells (Symbol.Target x)
+
+-- where a statement may begin
+pub data BetweenLines : Symbol → Type 0 where
+  outside : BetweenLines Symbol.Lines
+  within : BetweenLines Symbol.Body

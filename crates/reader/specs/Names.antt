@@ -1,7 +1,7 @@
 -- Names as parts of a text.
 use Rattle.std.specs.Prelude.{◌≡◌, ℕ, ◌-◌, ◌<◌, true, false, List, [], ◌∷◌, ◌++◌, map, length, take, drop, Some, None, Option}
 use Rattle.semantics.specs.Shapes.{pick}
-use Rattle.grammar.specs.Words.{Word, is_some, itself}
+use Rattle.grammar.specs.Words.{Word, is_some, itself, is_name}
 use Rattle.grammar.specs.Moves.{place, with_name, can_name}
 use Rattle.reader.specs.declared.names.Span.{Span}
 use Rattle.reader.specs.declared.names.Naming.{Naming}
@@ -32,3 +32,14 @@ pub record NamesAs (ns : List Word) (w : Word) (n : Naming) : Type 0 where
 pub data Named (ns : List Word) (w : Word) : Option Naming → Type 0 where
   unnamed : can_name ns w ≡ false → Named ns w None
   named : {n : Naming} → NamesAs ns w n → Named ns w (Some n)
+
+-- a name that has come
+pub record KnownAs (ns : List Word) (w : Word) (k : ℕ) : Type 0 where
+  pub named : is_name w ≡ true
+  pub there : is_some itself ns w ≡ true
+  pub is : place ns w ≡ k
+  pub low : k < length ns
+
+abbrev pub Known : List Word → Word → Option ℕ → Type 0
+Known ns w None = Unit {0}
+Known ns w (Some k) = KnownAs ns w k

@@ -1,11 +1,12 @@
 -- What the code's values say in the automaton's words.
-use Rattle.std.specs.Prelude.{ℕ, ◌-◌, ◌^◌, ◌<◌, ◌≤◌, List, [], ◌∷◌, ◌++◌, Some, None, Option}
+use Rattle.std.specs.Prelude.{◌≡◌, ℕ, ◌-◌, ◌^◌, ◌<◌, ◌≤◌, List, [], ◌∷◌, ◌++◌, Some, None, Option}
 use Rattle.std.specs.Option.{option_to_list}
 use Rattle.semantics.specs.Shapes.{pick}
 use Rattle.grammar.specs.Letters.{Flag, inside, begins, opens, closes}
 use Rattle.grammar.specs.Words.{Word}
-use Rattle.grammar.specs.Moves.{Ended, no, ended, Move, stop, move}
+use Rattle.grammar.specs.Moves.{operands, head_rest, Ended, no, ended, Move, stop, move}
 use Rattle.grammar.specs.declared.symbol.Symbol.{Symbol}
+use Rattle.grammar.specs.declared.symbol.Head.{Head}
 use Rattle.reader.specs.declared.turn.Mark.{Mark}
 use Rattle.reader.specs.declared.turn.Ending.{Ending}
 use Rattle.reader.specs.declared.turn.Turn.{Turn}
@@ -57,3 +58,8 @@ Fit (Symbol.First k) v = Unit {0}
 Fit (Symbol.More k) v = Unit {0}
 Fit (Symbol.Item k) v = Unit {0}
 Fit (Symbol.Step f) v = Unit {0}
+
+-- so many operands more than one follow, where it is said how many
+abbrev pub Opens : Head → Option ℕ → Type 0
+Opens h None = Unit {0}
+Opens h (Some n) = head_rest h ≡ operands n

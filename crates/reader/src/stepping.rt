@@ -2,6 +2,7 @@
 use crate::turn::Mark;
 use program::step::Step;
 
+pub mod known;
 pub mod moving;
 
 // The step that is said, where one is.

@@ -4,7 +4,7 @@ ghost use Rattle.std.specs.Option.{option_to_list};
 ghost use Rattle.grammar.specs.Letters.{tally_flag};
 ghost use Rattle.grammar.specs.Automaton.{start, is_lines};
 ghost use Rattle.reader.specs.Turning.{flag_of};
-ghost use Rattle.reader.specs.Machines.{state_of, Good};
+ghost use Rattle.reader.specs.Machines.{state_of, Good, Hinted};
 ghost use Rattle.reader.specs.Judging.{tally_of, is_newline, only_lines, line_ends, place_of, ReadsText};
 
 use crate::judging::{Count, Verdict};
@@ -25,6 +25,7 @@ const MOST_LEVELS: usize = 8;
 fn fresh_machine() -> Machine
     ensures good { Good 0 16 result }
     ensures is { (t : List ℕ) → state_of t 0 result [] ≡ start }
+    ensures hinted { (t : List ℕ) → Hinted t 0 result }
 {
     Machine {
         stack: [Symbol::Lines; 2112],
@@ -33,6 +34,8 @@ fn fresh_machine() -> Machine
         count: 0,
         word: 0,
         value: 0,
+        hints: [0; 256],
+        clean: false,
     }
 }
 

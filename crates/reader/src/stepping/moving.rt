@@ -1,15 +1,16 @@
 // One byte after the other, on the machine.
-ghost use Rattle.std.specs.Prelude.{◌≡◌, ℕ, ◌+◌, ◌<◌, ◌≤◌, true, List, [], ◌∷◌, ◌++◌, length, take};
+ghost use Rattle.std.specs.Prelude.{◌≡◌, ℕ, ◌+◌, ◌<◌, ◌≤◌, true, List, [], ◌∷◌, ◌++◌, length, take, slice_set, OnSome};
 ghost use Rattle.semantics.specs.Shapes.{pick};
 ghost use Rattle.reader.specs.Names.{part};
 ghost use Rattle.reader.specs.Pushed.{symbols_of};
 ghost use Rattle.reader.specs.Turning.{word_from};
-ghost use Rattle.reader.specs.Machines.{Good, Replaced, Settles, Turns, Advances};
+ghost use Rattle.reader.specs.Machines.{Good, Hinted, Replaced, Settles, Turns, Advances};
 
 use crate::endings::{end_symbol, goes_on};
 use crate::machine::{DEPTH, Machine};
 use crate::names::{Span, part_of};
 use crate::pushes::Pushes;
+use crate::stepping::known::sum_of;
 use crate::stepping::{Advance, Said};
 use crate::turns::turn_symbol;
 use grammar::symbol::Symbol;
@@ -53,10 +54,23 @@ fn word_start(word: Option<usize>, next: usize) -> usize
     from
 }
 
+// Keeps the hint to a new name.
+fn note_name(hints: &mut [u8], at: usize, new: bool, name: usize)
+    requires there { at < length hints.old }
+    requires few { name ≤ 64 }
+    ensures { hints.new ≡ pick new (slice_set hints.old at name) hints.old }
+{
+    if !new {
+        return;
+    }
+    hints[at] = name as u8;
+}
+
 // A word or number on top ends where byte `b` does not belong to it; none where it cannot end so.
 pub fn settle_top(machine: &mut Machine, text: &[u8], i: usize, b: u8) -> Option<Said>
     requires good { Good i 16 machine.old }
-    ensures { Settles text.now i b machine.old machine.new result }
+    ensures settles { Settles text.now i b machine.old machine.new result }
+    ensures kept { Hinted text.now i machine.old → OnSome result (Hinted text.now i machine.new) }
 {
     let top = machine.top;
     if top >= DEPTH {
@@ -79,9 +93,11 @@ pub fn settle_top(machine: &mut Machine, text: &[u8], i: usize, b: u8) -> Option
         ending.named,
         Span { from, to: i },
     );
+    note_name(&mut machine.hints, sum_of(word), ending.named, count);
     machine.top = replace_top(&mut machine.stack, top, ending.pushes);
     machine.word = i;
     machine.value = 0;
+    machine.clean = false;
     Some(Said { step: ending.step })
 }
 
@@ -89,7 +105,8 @@ pub fn settle_top(machine: &mut Machine, text: &[u8], i: usize, b: u8) -> Option
 fn turn_top(machine: &mut Machine, text: &[u8], i: usize) -> Option<Advance>
     requires inside { i < length text.now }
     requires good { Good i 8 machine.old }
-    ensures { Turns text.now i machine.old machine.new result }
+    ensures turns { Turns text.now i machine.old machine.new result }
+    ensures kept { Hinted text.now i machine.old → OnSome result (Hinted text.now (i + 1) machine.new) }
 {
     let top = machine.top;
     if top >= DEPTH {
@@ -110,6 +127,7 @@ fn turn_top(machine: &mut Machine, text: &[u8], i: usize) -> Option<Advance>
     machine.top = replace_top(&mut machine.stack, top, turn.pushes);
     machine.word = word_start(turn.word, i + 1);
     machine.value = turn.value;
+    machine.clean = false;
     Some(Advance {
         before: None,
         step: turn.step,
@@ -121,7 +139,8 @@ fn turn_top(machine: &mut Machine, text: &[u8], i: usize) -> Option<Advance>
 pub fn advance(machine: &mut Machine, text: &[u8], i: usize) -> Option<Advance>
     requires inside { i < length text.now }
     requires good { Good i 16 machine.old }
-    ensures { Advances text.now i machine.old machine.new result }
+    ensures advances { Advances text.now i machine.old machine.new result }
+    ensures kept { Hinted text.now i machine.old → OnSome result (Hinted text.now (i + 1) machine.new) }
 {
     let Some(before) = settle_top(machine, text, i, text[i]) else {
         return None;

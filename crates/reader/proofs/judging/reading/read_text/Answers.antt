@@ -14,28 +14,28 @@ pub advance-requires : goal.advance-requires
 advance-requires c = record { inside = c.loop-i-test.true; good = c.loop-i.invariant.good }
 
 pub returns-in_default : goal.returns-in_default
-returns-in_default c = way_stuck c.args.text.now c.loop-i.i c.loop-i.machine c.loop-i.count c.loop-i.said c.loop-i.steps c.loop-i.places c.loop-i.invariant c.loop-i-test.true c.if-i-eq-MOST_BYTES.false c.in_default.ensures
+returns-in_default c = way_stuck c.args.text.now c.loop-i.i c.loop-i.machine c.loop-i.count c.loop-i.said c.loop-i.steps c.loop-i.places c.loop-i.invariant c.loop-i-test.true c.if-i-eq-MOST_BYTES.false c.in_default.ensures.advances
 
 pub count_mark-counted-requires : goal.count_mark-counted-requires
 count_mark-counted-requires c = record { few = c.loop-i.invariant.few; low = c.loop-i.invariant.low }
 
 pub returns-then-counted-gt-MOST_MARKS : goal.returns-then-counted-gt-MOST_MARKS
-returns-then-counted-gt-MOST_MARKS c = way_over c.args.text.now c.loop-i.i c.loop-i.machine c.loop-i.count c.loop-i.said c.loop-i.steps c.loop-i.places c.loop-i.invariant c.loop-i-test.true c.if-i-eq-MOST_BYTES.false c.advance.new.machine c.in-Some.turn c.in-Some.ensures c.count_mark-counted.result c.count_mark-counted.ensures (many_marks c.count_mark-counted.result c.if-counted-gt-MOST_MARKS.true)
+returns-then-counted-gt-MOST_MARKS c = way_over c.args.text.now c.loop-i.i c.loop-i.machine c.loop-i.count c.loop-i.said c.loop-i.steps c.loop-i.places c.loop-i.invariant c.loop-i-test.true c.if-i-eq-MOST_BYTES.false c.advance.new.machine c.in-Some.turn c.in-Some.ensures.advances c.count_mark-counted.result c.count_mark-counted.ensures (many_marks c.count_mark-counted.result c.if-counted-gt-MOST_MARKS.true)
 
 pub returns-then-counted-gt-MOST_LEVELS : goal.returns-then-counted-gt-MOST_LEVELS
-returns-then-counted-gt-MOST_LEVELS c = way_over c.args.text.now c.loop-i.i c.loop-i.machine c.loop-i.count c.loop-i.said c.loop-i.steps c.loop-i.places c.loop-i.invariant c.loop-i-test.true c.if-i-eq-MOST_BYTES.false c.advance.new.machine c.in-Some.turn c.in-Some.ensures c.count_mark-counted.result c.count_mark-counted.ensures (deep_level c.count_mark-counted.result c.if-counted-gt-MOST_LEVELS.true)
+returns-then-counted-gt-MOST_LEVELS c = way_over c.args.text.now c.loop-i.i c.loop-i.machine c.loop-i.count c.loop-i.said c.loop-i.steps c.loop-i.places c.loop-i.invariant c.loop-i-test.true c.if-i-eq-MOST_BYTES.false c.advance.new.machine c.in-Some.turn c.in-Some.ensures.advances c.count_mark-counted.result c.count_mark-counted.ensures (deep_level c.count_mark-counted.result c.if-counted-gt-MOST_LEVELS.true)
 
 pub store_step-said-requires : goal.store_step-said-requires
-store_step-said-requires c = omega (arith, room_now c.args.text.now c.loop-i.i c.loop-i.machine c.loop-i.count c.loop-i.said c.loop-i.steps c.loop-i.places c.loop-i.invariant c.loop-i-test.true c.if-i-eq-MOST_BYTES.false c.advance.new.machine c.in-Some.turn c.in-Some.ensures c.count_mark-counted.result c.count_mark-counted.ensures, c.if-counted-gt-MOST_MARKS.false, c.loop-i.invariant.long)
+store_step-said-requires c = omega (arith, room_now c.args.text.now c.loop-i.i c.loop-i.machine c.loop-i.count c.loop-i.said c.loop-i.steps c.loop-i.places c.loop-i.invariant c.loop-i-test.true c.if-i-eq-MOST_BYTES.false c.advance.new.machine c.in-Some.turn c.in-Some.ensures.advances c.count_mark-counted.result c.count_mark-counted.ensures, c.if-counted-gt-MOST_MARKS.false, c.loop-i.invariant.long)
 
 pub store_step-said-requires-in-loop-i : goal.store_step-said-requires-in-loop-i
-store_step-said-requires-in-loop-i c = omega (arith, room_now c.args.text.now c.loop-i.i c.loop-i.machine c.loop-i.count c.loop-i.said c.loop-i.steps c.loop-i.places c.loop-i.invariant c.loop-i-test.true c.if-i-eq-MOST_BYTES.false c.advance.new.machine c.in-Some.turn c.in-Some.ensures c.count_mark-counted.result c.count_mark-counted.ensures, c.if-counted-gt-MOST_MARKS.false, c.loop-i.invariant.long, c.store_step-said.ensures.more, c.store_step-said.auto.steps)
+store_step-said-requires-in-loop-i c = omega (arith, room_now c.args.text.now c.loop-i.i c.loop-i.machine c.loop-i.count c.loop-i.said c.loop-i.steps c.loop-i.places c.loop-i.invariant c.loop-i-test.true c.if-i-eq-MOST_BYTES.false c.advance.new.machine c.in-Some.turn c.in-Some.ensures.advances c.count_mark-counted.result c.count_mark-counted.ensures, c.if-counted-gt-MOST_MARKS.false, c.loop-i.invariant.long, c.store_step-said.ensures.more, c.store_step-said.auto.steps)
 
 pub overflow_cast-i : goal.overflow_cast-i
 overflow_cast-i c = omega (arith, c.loop-i.invariant.short)
 
 pub store_place-requires : goal.store_place-requires
-store_place-requires c = omega (arith, place_room c.args.text.now c.loop-i.i c.loop-i.machine c.loop-i.count c.loop-i.said c.loop-i.steps c.loop-i.places c.loop-i.invariant c.loop-i-test.true c.if-i-eq-MOST_BYTES.false c.advance.new.machine c.in-Some.turn c.in-Some.ensures c.count_mark-counted.result c.count_mark-counted.ensures, c.if-counted-gt-MOST_MARKS.false, c.loop-i.invariant.wide)
+store_place-requires c = omega (arith, place_room c.args.text.now c.loop-i.i c.loop-i.machine c.loop-i.count c.loop-i.said c.loop-i.steps c.loop-i.places c.loop-i.invariant c.loop-i-test.true c.if-i-eq-MOST_BYTES.false c.advance.new.machine c.in-Some.turn c.in-Some.ensures.advances c.count_mark-counted.result c.count_mark-counted.ensures, c.if-counted-gt-MOST_MARKS.false, c.loop-i.invariant.wide)
 
 pub loop-i-preserved : goal.loop-i-preserved
 loop-i-preserved c =
@@ -47,9 +47,9 @@ loop-i-preserved c =
     let steps2 = c.store_step-said-in-loop-i.new.steps in
     let first : reverse (take said1 steps1) ≡ option_to_list before ++ reverse (take c.loop-i.said c.loop-i.steps) = said_more (take c.loop-i.said c.loop-i.steps) (take said1 steps1) before c.store_step-said.ensures.is in
     let second : reverse (take said2 steps2) ≡ option_to_list step ++ reverse (take said1 steps1) = said_more (take said1 steps1) (take said2 steps2) step c.store_step-said-in-loop-i.ensures.is in
-    let room = room_now c.args.text.now c.loop-i.i c.loop-i.machine c.loop-i.count c.loop-i.said c.loop-i.steps c.loop-i.places c.loop-i.invariant c.loop-i-test.true c.if-i-eq-MOST_BYTES.false c.advance.new.machine c.in-Some.turn c.in-Some.ensures c.count_mark-counted.result c.count_mark-counted.ensures in
-    let marks = place_room c.args.text.now c.loop-i.i c.loop-i.machine c.loop-i.count c.loop-i.said c.loop-i.steps c.loop-i.places c.loop-i.invariant c.loop-i-test.true c.if-i-eq-MOST_BYTES.false c.advance.new.machine c.in-Some.turn c.in-Some.ensures c.count_mark-counted.result c.count_mark-counted.ensures in
-    way_on c.args.text.now c.loop-i.i c.loop-i.machine c.loop-i.count c.loop-i.said c.loop-i.steps c.loop-i.places c.loop-i.invariant c.loop-i-test.true c.if-i-eq-MOST_BYTES.false c.advance.new.machine c.in-Some.turn c.in-Some.ensures c.count_mark-counted.result c.count_mark-counted.ensures c.if-counted-gt-MOST_MARKS.false c.if-counted-gt-MOST_LEVELS.false said2 steps2 c.store_place.new.places
+    let room = room_now c.args.text.now c.loop-i.i c.loop-i.machine c.loop-i.count c.loop-i.said c.loop-i.steps c.loop-i.places c.loop-i.invariant c.loop-i-test.true c.if-i-eq-MOST_BYTES.false c.advance.new.machine c.in-Some.turn c.in-Some.ensures.advances c.count_mark-counted.result c.count_mark-counted.ensures in
+    let marks = place_room c.args.text.now c.loop-i.i c.loop-i.machine c.loop-i.count c.loop-i.said c.loop-i.steps c.loop-i.places c.loop-i.invariant c.loop-i-test.true c.if-i-eq-MOST_BYTES.false c.advance.new.machine c.in-Some.turn c.in-Some.ensures.advances c.count_mark-counted.result c.count_mark-counted.ensures in
+    way_on c.args.text.now c.loop-i.i c.loop-i.machine c.loop-i.count c.loop-i.said c.loop-i.steps c.loop-i.places c.loop-i.invariant c.loop-i-test.true c.if-i-eq-MOST_BYTES.false c.advance.new.machine c.in-Some.turn c.in-Some.ensures.advances c.count_mark-counted.result c.count_mark-counted.ensures c.if-counted-gt-MOST_MARKS.false c.if-counted-gt-MOST_LEVELS.false said2 steps2 c.store_place.new.places
     (omega (arith, c.store_step-said.auto.steps, c.store_step-said-in-loop-i.auto.steps, c.loop-i.invariant.long))
     (omega (arith, c.store_place.auto.places, c.loop-i.invariant.wide))
     (omega (arith, room, c.store_step-said.ensures.more, c.store_step-said-in-loop-i.ensures.more, c.if-counted-gt-MOST_MARKS.false))
@@ -63,16 +63,16 @@ pub settle_top-requires : goal.settle_top-requires
 settle_top-requires c = let on = at_end c.args.text.now c.loop-i.i c.loop-i.machine c.loop-i.count c.loop-i.said c.loop-i.steps c.loop-i.places (omega arith) c.loop-i.invariant in record { good = on.good }
 
 pub returns-in_default-settle_top : goal.returns-in_default-settle_top
-returns-in_default-settle_top c = let on = at_end c.args.text.now c.loop-i.i c.loop-i.machine c.loop-i.count c.loop-i.said c.loop-i.steps c.loop-i.places (omega arith) c.loop-i.invariant in way_unsettled c.args.text.now (length c.args.text.now) c.loop-i.machine c.loop-i.count c.loop-i.said c.loop-i.steps c.loop-i.places on refl c.if-at_lines.ensures c.in_default-settle_top.ensures
+returns-in_default-settle_top c = let on = at_end c.args.text.now c.loop-i.i c.loop-i.machine c.loop-i.count c.loop-i.said c.loop-i.steps c.loop-i.places (omega arith) c.loop-i.invariant in way_unsettled c.args.text.now (length c.args.text.now) c.loop-i.machine c.loop-i.count c.loop-i.said c.loop-i.steps c.loop-i.places on refl c.if-at_lines.ensures c.in_default-settle_top.ensures.settles
 
 pub store_step-said-requires-2 : goal.store_step-said-requires-2
-store_step-said-requires-2 c = let on = at_end c.args.text.now c.loop-i.i c.loop-i.machine c.loop-i.count c.loop-i.said c.loop-i.steps c.loop-i.places (omega arith) c.loop-i.invariant in record { room = omega (arith, room_last c.args.text.now (length c.args.text.now) c.loop-i.machine c.loop-i.count c.loop-i.said c.loop-i.steps c.loop-i.places on refl c.if-at_lines.ensures c.settle_top.new.machine c.in-Some-settle_top.last c.in-Some-settle_top.ensures, on.long) }
+store_step-said-requires-2 c = let on = at_end c.args.text.now c.loop-i.i c.loop-i.machine c.loop-i.count c.loop-i.said c.loop-i.steps c.loop-i.places (omega arith) c.loop-i.invariant in record { room = omega (arith, room_last c.args.text.now (length c.args.text.now) c.loop-i.machine c.loop-i.count c.loop-i.said c.loop-i.steps c.loop-i.places on refl c.if-at_lines.ensures c.settle_top.new.machine c.in-Some-settle_top.last c.in-Some-settle_top.ensures.settles, on.long) }
 
 pub returns-then-at_last_newline : goal.returns-then-at_last_newline
 returns-then-at_last_newline c =
     let on = at_end c.args.text.now c.loop-i.i c.loop-i.machine c.loop-i.count c.loop-i.said c.loop-i.steps c.loop-i.places (omega arith) c.loop-i.invariant in
-    way_taken c.args.text.now (length c.args.text.now) c.loop-i.machine c.loop-i.count c.loop-i.said c.loop-i.steps c.loop-i.places on refl c.if-at_lines.ensures c.settle_top.new.machine c.in-Some-settle_top.last c.in-Some-settle_top.ensures c.if-at_last_newline.ensures c.store_step-said-2.result c.store_step-said-2.new.steps c.store_step-said-2.ensures.more
+    way_taken c.args.text.now (length c.args.text.now) c.loop-i.machine c.loop-i.count c.loop-i.said c.loop-i.steps c.loop-i.places on refl c.if-at_lines.ensures c.settle_top.new.machine c.in-Some-settle_top.last c.in-Some-settle_top.ensures.settles c.if-at_last_newline.ensures c.store_step-said-2.result c.store_step-said-2.new.steps c.store_step-said-2.ensures.more
     (said_more (take c.loop-i.said c.loop-i.steps) (take c.store_step-said-2.result c.store_step-said-2.new.steps) c.in-Some-settle_top.last.step c.store_step-said-2.ensures.is)
 
 pub returns : goal.returns
-returns c = let on = at_end c.args.text.now c.loop-i.i c.loop-i.machine c.loop-i.count c.loop-i.said c.loop-i.steps c.loop-i.places (omega arith) c.loop-i.invariant in way_refused c.args.text.now (length c.args.text.now) c.loop-i.machine c.loop-i.count c.loop-i.said c.loop-i.steps c.loop-i.places on refl c.if-at_lines.ensures c.settle_top.new.machine c.in-Some-settle_top.last c.in-Some-settle_top.ensures c.if-at_last_newline.ensures
+returns c = let on = at_end c.args.text.now c.loop-i.i c.loop-i.machine c.loop-i.count c.loop-i.said c.loop-i.steps c.loop-i.places (omega arith) c.loop-i.invariant in way_refused c.args.text.now (length c.args.text.now) c.loop-i.machine c.loop-i.count c.loop-i.said c.loop-i.steps c.loop-i.places on refl c.if-at_lines.ensures c.settle_top.new.machine c.in-Some-settle_top.last c.in-Some-settle_top.ensures.settles c.if-at_last_newline.ensures

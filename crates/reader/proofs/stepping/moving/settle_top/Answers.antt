@@ -3,14 +3,15 @@ use Rattle.std.proofs.lemmas.List.{length-take}
 use Rattle.grammar.specs.declared.symbol.Symbol.{Symbol}
 use Rattle.reader.specs.Names.{part, spellings}
 use Rattle.reader.proofs.Settling.{names_of, fit_here, settle_empty, settle_none, ended_at, used_names, few_used, room_for, settled_same, settled_new}
+use Rattle.reader.proofs.Noting.{hinted_new}
 use Rattle.reader.proofs.stepping.moving.settle_top.Goals as goal
 
-pub returns-then-top-ge-DEPTH : goal.returns-then-top-ge-DEPTH
-returns-then-top-ge-DEPTH c out =
+pub returns-then-top-ge-DEPTH-clause-settles : goal.returns-then-top-ge-DEPTH-clause-settles
+returns-then-top-ge-DEPTH-clause-settles c out =
     settle_empty c.args.machine.now c.args.text.now c.args.i c.args.b out (omega (arith, c.requires.good.wide, c.if-top-ge-DEPTH.true))
 
-pub returns-then-goes_on : goal.returns-then-goes_on
-returns-then-goes_on c =
+pub returns-then-goes_on-clause-settles : goal.returns-then-goes_on-clause-settles
+returns-then-goes_on-clause-settles c =
     settled_same c.args.text.now c.args.i c.args.b c.args.machine.now c.requires.good c.if-top-ge-DEPTH.false c.if-goes_on.ensures
 
 pub end_symbol-requires : goal.end_symbol-requires
@@ -21,8 +22,8 @@ end_symbol-requires c =
       fit = fit_here m (get_or m.stack m.top Symbol.Lines) (omega (arith, c.requires.good.wide, c.if-top-ge-DEPTH.false)) refl c.requires.good.fits;
     }
 
-pub returns-in_default : goal.returns-in_default
-returns-in_default c out =
+pub returns-in_default-clause-settles : goal.returns-in_default-clause-settles
+returns-in_default-clause-settles c out =
     let m = c.args.machine.now in
     let t = c.args.text.now in
     let s = get_or m.stack m.top Symbol.Lines in
@@ -45,11 +46,20 @@ add_name-machine-requires c =
           omega (arith, low, used, c.requires.good.spans);
     }
 
-pub returns : goal.returns
-returns c =
+pub returns-clause-settles : goal.returns-clause-settles
+returns-clause-settles c =
     let m = c.args.machine.now in
     let t = c.args.text.now in
     let s = get_or m.stack m.top Symbol.Lines in
     settled_new t c.args.i c.args.b m _ c.in-Some.ending c.requires.good c.if-top-ge-DEPTH.false c.if-goes_on.ensures
     (ended_at (spellings t (take (m.count - 0) m.names)) (names_of t m) c.part_of-word.result.now (part t m.word c.args.i) s m.value (Some c.in-Some.ending) (used_names t m) c.part_of-word.ensures c.in-Some.ensures)
     c.add_name-machine.ensures.0 (omega (arith, c.add_name-machine.ensures.1, c.add_name-machine.auto.names, c.requires.good.spans)) (omega (arith, c.add_name-machine.auto.names, c.requires.good.spans)) c.replace_top-machine.ensures refl refl
+
+pub returns-clause-kept : goal.returns-clause-kept
+returns-clause-kept c hinted =
+    let m = c.args.machine.now in
+    let t = c.args.text.now in
+    let s = get_or m.stack m.top Symbol.Lines in
+    hinted_new t c.args.i m _ s c.in-Some.ending hinted
+    (ended_at (spellings t (take (m.count - 0) m.names)) (names_of t m) c.part_of-word.result.now (part t m.word c.args.i) s m.value (Some c.in-Some.ending) (used_names t m) c.part_of-word.ensures c.in-Some.ensures)
+    c.add_name-machine.ensures.0 c.note_name.auto.hints refl
