@@ -6,6 +6,9 @@ mod Replacing
 mod Keeping
 mod Settling
 mod Noting
+mod Skimming
+mod Known
+mod Figures
 mod Lines
 mod AtEnd
 mod OnWay

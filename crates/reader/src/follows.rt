@@ -4,6 +4,7 @@ ghost use Rattle.std.specs.Option.{option_to_list};
 ghost use Rattle.grammar.specs.declared.symbol.Symbol.{Symbol};
 ghost use Rattle.grammar.specs.Moves.{operands, bracket, head_step, head_rest, target_step, target_rest, along_step, number_step, number_rest, item_number};
 ghost use Rattle.reader.specs.Pushed.{symbols_of};
+ghost use Rattle.reader.specs.Turning.{Opens};
 
 use crate::pushes::Pushes;
 use crate::pushes::making::{four, none, seven, six, three, two};
@@ -160,5 +161,25 @@ pub fn item_number(kind: Bracket) -> Number
     match kind {
         Bracket::Numbers => Number::Item,
         Bracket::Parts => Number::From,
+    }
+}
+
+// How many operands more than one follow the head at once; none where something else does.
+pub fn more_operands(head: Head) -> Option<u8>
+    ensures { Opens head result }
+{
+    match head {
+        Head::In => None,
+        Head::Count => None,
+        Head::Each(_) => Some(0),
+        Head::Both(_) => Some(1),
+        Head::Choose => Some(2),
+        Head::Fold => None,
+        Head::Scan => None,
+        Head::Shape => None,
+        Head::Turn => None,
+        Head::Part => None,
+        Head::Join => None,
+        Head::Rows => Some(1),
     }
 }

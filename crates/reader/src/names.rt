@@ -7,7 +7,7 @@ ghost use Rattle.reader.specs.Names.{part, spellings, Sought, Named};
 use grammar::words::{begins_head, begins_word, is_name, is_shaped, same_word};
 
 // How many names a text may have.
-const MOST_NAMES: usize = 64;
+pub const MOST_NAMES: usize = 64;
 
 #[derive(Clone, Copy)]
 pub struct Span {

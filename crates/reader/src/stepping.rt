@@ -2,8 +2,10 @@
 use crate::turn::Mark;
 use program::step::Step;
 
+pub mod figures;
 pub mod known;
 pub mod moving;
+pub mod skimming;
 
 // The step that is said, where one is.
 #[derive(Clone, Copy)]

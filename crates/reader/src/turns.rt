@@ -173,7 +173,7 @@ fn digits_turn(number: Number, value: u64, b: u8) -> Option<Turn>
 }
 
 // The value of a hexadecimal digit.
-fn hex_value(b: u8) -> u64
+pub fn hex_value(b: u8) -> u64
     requires is { is_hex b ≡ true }
     ensures { (result ≡ hex_of b) × (result < 16) }
 {
