@@ -10,8 +10,10 @@ use crate::endings::{end_symbol, goes_on};
 use crate::machine::{DEPTH, Machine};
 use crate::names::{Span, part_of};
 use crate::pushes::Pushes;
-use crate::stepping::known::sum_of;
+use crate::stepping::known::{end_known, sum_of};
+use crate::stepping::skimming::{begin_mark, take_plain};
 use crate::stepping::{Advance, Said};
+use crate::turn::Mark;
 use crate::turns::turn_symbol;
 use grammar::symbol::Symbol;
 
@@ -145,6 +147,41 @@ pub fn advance(machine: &mut Machine, text: &[u8], i: usize) -> Option<Advance>
     let Some(before) = settle_top(machine, text, i, text[i]) else {
         return None;
     };
+    let Some(turned) = turn_top(machine, text, i) else {
+        return None;
+    };
+    Some(Advance {
+        before: before.step,
+        step: turned.step,
+        mark: turned.mark,
+    })
+}
+
+// The same, the common ways first.
+pub fn advance_quick(machine: &mut Machine, text: &[u8], i: usize) -> Option<Advance>
+    requires inside { i < length text.now }
+    requires good { Good i 16 machine.old }
+    requires hinted { Hinted text.now i machine.old }
+    ensures advances { Advances text.now i machine.old machine.new result }
+    ensures kept { OnSome result (Hinted text.now (i + 1) machine.new) }
+{
+    if begin_mark(machine, text, i) {
+        return Some(Advance {
+            before: None,
+            step: None,
+            mark: Mark::Begins,
+        });
+    }
+    let Some(before) = end_known(machine, text, i, text[i]) else {
+        return advance(machine, text, i);
+    };
+    if take_plain(machine, text, i) {
+        return Some(Advance {
+            before: before.step,
+            step: None,
+            mark: Mark::Inside,
+        });
+    }
     let Some(turned) = turn_top(machine, text, i) else {
         return None;
     };
