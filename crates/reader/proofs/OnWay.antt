@@ -45,6 +45,10 @@ way_start t m steps places good is long wide =
       marks = ap (λ q. places_from q 0 t) (sym is);
     }
 
+-- with the machine as it was
+pub unchanged : {t : List ℕ} {i : ℕ} {m n : Machine} {c : Count} {said : ℕ} {steps : List Step} {places : List ℕ} → n ≡ m → OnWay t i m c said steps places → OnWay t i n c said steps places
+unchanged {t} {i} {m} {n} {c} {said} {steps} {places} e on = subst (λ k. OnWay t i k c said steps places) (sym e) on
+
 -- behind the last byte
 pub at_end : (t : List ℕ) (i : ℕ) (m : Machine) (c : Count) (said : ℕ) (steps : List Step) (places : List ℕ) → i ≡ length t → OnWay t i m c said steps places → OnWay t (length t) m c said steps places
 at_end t i m c said steps places e on = subst (λ n. OnWay t n m c said steps places) e on

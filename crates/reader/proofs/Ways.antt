@@ -17,11 +17,11 @@ use Rattle.reader.specs.declared.stepping.Said.{Said}
 use Rattle.reader.specs.declared.judging.Count.{Count}
 use Rattle.reader.specs.declared.judging.Verdict.{Verdict}
 use Rattle.reader.specs.Turning.{flag_of}
-use Rattle.reader.specs.Machines.{state_of, Good, Advanced, Settled}
+use Rattle.reader.specs.Machines.{state_of, Good, Advanced, Settled, ReadOn}
 use Rattle.reader.specs.Judging.{tally_of, only_lines, line_ends, place_of, place_at, places_from, mark_places, ReadsText}
 use Rattle.reader.proofs.Depths.{Sound, pendings, deep}
 use Rattle.reader.proofs.Keeping.{Well, SoundState, sound_stuck, sound_at, sound_next, sound_settle}
-use Rattle.reader.proofs.Settling.{well_of}
+use Rattle.reader.proofs.Settling.{well_of, advanced_on}
 use Rattle.reader.proofs.AtEnd.{between_is, ends_between, ends_said, none_pending, none_pending_last}
 use Rattle.reader.proofs.OnWay.{state_with, OnWay, judge_long, judge_stuck, judge_over, judge_on, places_on}
 
@@ -149,6 +149,13 @@ module _ (t : List ℕ) (i : ℕ) (m : Machine) (c : Count) (said : ℕ) (steps 
                   ∙ (sym (append_assoc (take c.marks places) (place_of x.mark i) rest)
                   ∙ (ap (λ ps. ps ++ rest) (sym placed) ∙ ap (λ o. take d.marks places' ++ places_from (state_of t (i + 1) new o) (i + 1) (drop (i + 1) t)) (sym says)))));
             }
+
+      -- a byte that says no step and begins no mark
+      pub way_skim : (new : Machine) → ReadOn t i m new Mark.Inside → OnWay t (i + 1) new c said steps places
+      unfolding tally_flag
+      way_skim new read =
+          way_on new (record { before = None; step = None; mark = Mark.Inside }) (advanced_on t i m new Mark.Inside on.good read) c refl on.few on.low said steps places
+          on.long on.wide on.stored refl (sym (append-nil (take c.marks places)))
 
   -- AT THE END
 

@@ -10,7 +10,8 @@ ghost use Rattle.reader.specs.Judging.{tally_of, is_newline, only_lines, line_en
 use crate::judging::{Count, Verdict};
 use crate::machine::{DEPTH, Machine};
 use crate::names::Span;
-use crate::stepping::moving::{advance, settle_top};
+use crate::stepping::moving::{advance_quick, settle_top};
+use crate::stepping::skimming::skim;
 use crate::turn::Mark;
 use grammar::symbol::Symbol;
 use program::step::Step;
@@ -169,7 +170,10 @@ pub fn read_text(text: &[u8], steps: &mut [Step], places: &mut [u32]) -> Verdict
         if i == MOST_BYTES {
             return Verdict::TooMuch(i);
         }
-        let Some(turn) = advance(&mut machine, text, i) else {
+        if skim(&mut machine, text, i) {
+            continue;
+        }
+        let Some(turn) = advance_quick(&mut machine, text, i) else {
             return Verdict::NoProgram(i);
         };
         let counted = count_mark(count, turn.mark);
