@@ -7,12 +7,12 @@ ghost use Rattle.reader.specs.Names.{spellings};
 ghost use Rattle.reader.specs.Turning.{ended_of, Fit};
 
 use crate::follows::{head_rest, head_step, number_rest, number_step, target_rest, target_step};
-use grammar::letters::{in_word, is_digit};
 use crate::names::{Span, name_of};
 use crate::pushes::making::{none, two};
 use crate::turn::Ending;
-use grammar::words::{find_binary, find_head};
+use grammar::letters::{in_word, is_digit};
 use grammar::symbol::{Along, Number, Symbol, Target};
+use grammar::words::{find_binary, find_head};
 use program::step::Step;
 
 // Whether the byte belongs to the word or number on top; to any other symbol every byte does.

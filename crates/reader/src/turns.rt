@@ -11,13 +11,13 @@ ghost use Rattle.reader.specs.Pushed.{symbols_of};
 ghost use Rattle.reader.specs.Turning.{flag_of, move_or, move_of, Fit};
 
 use crate::follows::item_number;
-use grammar::letters::{is_digit, is_hex};
 use crate::names::{Span, is_viable, is_viable_name, part_of};
 use crate::pushes::Pushes;
 use crate::pushes::making::{eight, none, one, seven, six, three, two};
 use crate::turn::{Mark, Turn};
-use grammar::words::begins_binary;
+use grammar::letters::{is_digit, is_hex};
 use grammar::symbol::{Bracket, Number, Symbol, Target};
+use grammar::words::begins_binary;
 use program::step::Step;
 
 // Symbols are pushed where the byte is the right one.
