@@ -1,12 +1,12 @@
 -- The end of a text: the newline that may be left out.
-use Rattle.std.proofs.Common.{◌≡◌, ℕ, zero, suc, ◌+◌, ◌-◌, ◌*◌, Bool, true, false, ◌&&◌, eqb, ltb, leb, List, [], ◌∷◌, ◌++◌, sym, refl, ap, ◌∙◌, arith}
+use Rattle.std.proofs.Common.{◌≡◌, ℕ, zero, suc, Bool, true, false, ◌&&◌, eqb, List, [], ◌∷◌, ◌++◌, refl, ◌∙◌, arith}
 use Rattle.std.proofs.lemmas.Bool.{and_parts, false≢true}
 use Rattle.program.specs.declared.step.Step.{Step}
 use Rattle.grammar.specs.declared.symbol.Symbol.{Symbol}
 use Rattle.grammar.specs.Letters.{inside, begins}
-use Rattle.grammar.specs.Words.{Word, begins_some, binary_word, binaries, is_digit}
-use Rattle.grammar.specs.Moves.{Move, stop, move, push, when, viable, viable_name, moves}
-use Rattle.grammar.specs.Automaton.{State, stuck, at, top_move, moved, is_lines, between, onto, steps_of}
+use Rattle.grammar.specs.Words.{Word, begins_some, binary_word, binaries}
+use Rattle.grammar.specs.Moves.{Move, move, push, when, viable, viable_name, moves}
+use Rattle.grammar.specs.Automaton.{at, top_move, moved, is_lines, between, onto, steps_of}
 use Rattle.reader.specs.Judging.{is_newline, only_lines, line_ends}
 use Rattle.reader.proofs.Depths.{pendings}
 

@@ -1,5 +1,5 @@
 -- What was read is a program, and the text is its text.
-use Rattle.std.proofs.Common.{◌≡◌, ℕ, ◌*◌, ◌≤◌, Bool, true, false, ltb, List, [], length, Ok, Err, Result, sym, refl, ap, ◌∙◌, subst, arith}
+use Rattle.std.proofs.Common.{◌≡◌, ℕ, ◌*◌, ◌≤◌, Bool, true, false, ltb, List, [], length, Ok, Err, sym, refl, ap, ◌∙◌, subst, arith}
 use Rattle.std.proofs.lemmas.Bool.{ltb-false}
 use Rattle.semantics.specs.Shapes.{pick}
 use Rattle.semantics.specs.Programs.{Program}
@@ -7,7 +7,6 @@ use Rattle.program.specs.declared.step.Step.{Step}
 use Rattle.program.specs.Spelling.{spell_program}
 use Rattle.grammar.specs.Texts.{Reads, Verdict, taken, no_program, too_much, Judged, is_taken}
 use Rattle.grammar.specs.Automaton.{Answer, took, refused_7, refused_8, answer_to, answer_of}
-use Rattle.grammar.specs.TextLaws.{Answered}
 use Rattle.grammar.proofs.TextLaws.{answers_verdict}
 use Rattle.reader.specs.declared.refusal.Refusal.{Refusal}
 use Rattle.reader.specs.Reading.{steps_said, result_of}

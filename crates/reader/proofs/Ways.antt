@@ -1,5 +1,5 @@
 -- The ways of the loop over a text, and of its end.
-use Rattle.std.proofs.Common.{◌≡◌, ℕ, suc, ◌+◌, ◌-◌, ◌*◌, ◌<◌, ◌≤◌, min, Bool, true, false, ◌||◌, eqb, ltb, List, [], ◌∷◌, ◌++◌, reverse, length, get_or, take, drop, Some, None, Option, sym, refl, ap, ◌∙◌, subst, arith}
+use Rattle.std.proofs.Common.{◌≡◌, ℕ, ◌+◌, ◌<◌, ◌≤◌, true, false, ltb, List, [], ◌∷◌, ◌++◌, reverse, length, get_or, take, drop, Some, None, Option, sym, refl, ap, ◌∙◌, subst, arith}
 use mathlib.Core.List.{reverse_aux}
 use Rattle.std.specs.Option.{option_to_list}
 use Rattle.std.proofs.lemmas.List.{at_drop_all, length-reverse, length-take-le, length-append, length-drop, reverse-append, append_assoc, append-nil}
@@ -7,9 +7,9 @@ use Rattle.std.proofs.lemmas.Bool.{lt-ltb, le-ltb, or_left, or_right, or_from}
 use Rattle.semantics.specs.Shapes.{pick}
 use Rattle.program.specs.declared.step.Step.{Step}
 use Rattle.grammar.specs.declared.symbol.Symbol.{Symbol}
-use Rattle.grammar.specs.Letters.{Flag, Tally, tally_flag}
+use Rattle.grammar.specs.Letters.{Tally, tally_flag}
 use Rattle.grammar.specs.Words.{Word}
-use Rattle.grammar.specs.Automaton.{State, stuck, at, settle, top_move, moved, next, next_flag, between, onto, steps_of, last, Answer, took, refused_7, refused_8, too_much_in, judge, answer_to}
+use Rattle.grammar.specs.Automaton.{State, stuck, at, settle, top_move, moved, next, next_flag, between, onto, steps_of, last, took, refused_7, refused_8, too_much_in, judge, answer_to}
 use Rattle.reader.specs.declared.machine.Machine.{Machine}
 use Rattle.reader.specs.declared.turn.Mark.{Mark}
 use Rattle.reader.specs.declared.stepping.Advance.{Advance}
@@ -17,10 +17,10 @@ use Rattle.reader.specs.declared.stepping.Said.{Said}
 use Rattle.reader.specs.declared.judging.Count.{Count}
 use Rattle.reader.specs.declared.judging.Verdict.{Verdict}
 use Rattle.reader.specs.Turning.{flag_of}
-use Rattle.reader.specs.Machines.{state_of, Good, Advanced, Settled, ReadOn}
+use Rattle.reader.specs.Machines.{state_of, Advanced, Settled, ReadOn}
 use Rattle.reader.specs.Judging.{tally_of, only_lines, line_ends, place_of, place_at, places_from, mark_places, ReadsText}
-use Rattle.reader.proofs.Depths.{Sound, pendings, deep}
-use Rattle.reader.proofs.Keeping.{Well, SoundState, sound_stuck, sound_at, sound_next, sound_settle}
+use Rattle.reader.proofs.Depths.{Sound, deep}
+use Rattle.reader.proofs.Keeping.{SoundState, sound_at, sound_next, sound_settle}
 use Rattle.reader.proofs.Settling.{well_of, advanced_on}
 use Rattle.reader.proofs.AtEnd.{between_is, ends_between, ends_said, none_pending, none_pending_last}
 use Rattle.reader.proofs.OnWay.{state_with, OnWay, judge_long, judge_stuck, judge_over, judge_on, places_on}

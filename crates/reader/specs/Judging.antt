@@ -1,9 +1,9 @@
 -- Texts judged.
-use Rattle.std.specs.Prelude.{◌≡◌, ℕ, suc, ◌+◌, ◌<◌, ◌≤◌, Bool, true, false, ◌&&◌, List, [], ◌∷◌, ◌++◌, length, take, ◌==◌}
+use Rattle.std.specs.Prelude.{◌≡◌, ℕ, suc, ◌≤◌, Bool, false, ◌&&◌, List, [], ◌∷◌, ◌++◌, take, ◌==◌}
 use Rattle.program.specs.declared.step.Step.{Step}
 use Rattle.grammar.specs.declared.symbol.Symbol.{Symbol}
 use Rattle.grammar.specs.Letters.{Flag, inside, begins, opens, closes, Tally}
-use Rattle.grammar.specs.Automaton.{State, start, next, next_flag, is_lines, Answer, took, refused_7, refused_8, answer_to}
+use Rattle.grammar.specs.Automaton.{State, start, next, next_flag, is_lines, took, refused_7, refused_8, answer_to}
 use Rattle.reader.specs.declared.turn.Mark.{Mark}
 use Rattle.reader.specs.declared.judging.Count.{Count}
 use Rattle.reader.specs.declared.judging.Verdict.{Verdict}

@@ -1,5 +1,5 @@
 use Rattle.std.proofs.Common.{◌+◌, [], ◌∷◌, get_or, sym, ap, ◌∙◌}
-use Rattle.grammar.specs.Letters.{inside, begins}
+use Rattle.grammar.specs.Letters.{begins}
 use Rattle.grammar.specs.declared.symbol.Symbol.{Symbol}
 use Rattle.semantics.specs.Shapes.{pick}
 use Rattle.grammar.specs.Moves.{when, move, moves, viable}

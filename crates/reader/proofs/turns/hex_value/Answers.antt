@@ -1,4 +1,4 @@
-use Rattle.std.proofs.Common.{◌-◌, inl, inr, arith}
+use Rattle.std.proofs.Common.{inl, inr, arith}
 use Rattle.reader.proofs.Turnings.{hex_low, hex_of_low, hex_of_high}
 use Rattle.reader.proofs.turns.hex_value.Goals as goal
 

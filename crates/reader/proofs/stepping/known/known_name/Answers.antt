@@ -1,5 +1,5 @@
-use Rattle.std.proofs.Common.{true, get_or, sym, subst, arith}
-use Rattle.reader.specs.Names.{spelling, spellings, KnownAs}
+use Rattle.std.proofs.Common.{get_or, sym, subst, arith}
+use Rattle.reader.specs.Names.{spelling, KnownAs}
 use Rattle.reader.proofs.Settling.{names_of}
 use Rattle.reader.proofs.Known.{known_by}
 use Rattle.reader.proofs.stepping.known.known_name.Goals as goal

@@ -1,4 +1,4 @@
-use Rattle.std.proofs.Common.{sym, arith}
+use Rattle.std.proofs.Common.{sym}
 use Rattle.reader.proofs.Skimming.{letter_read}
 use Rattle.reader.proofs.stepping.skimming.begin_word.Goals as goal
 
