@@ -59,7 +59,7 @@ Fit (Symbol.More k) v = Unit {0}
 Fit (Symbol.Item k) v = Unit {0}
 Fit (Symbol.Step f) v = Unit {0}
 
--- so many operands more than one follow, where it is said how many
+-- so many operands more than one follow at once, or something else does
 abbrev pub Opens : Head → Option ℕ → Type 0
-Opens h None = Unit {0}
+Opens h None = (n : ℕ) → head_rest h ≡ operands n → ⊥
 Opens h (Some n) = head_rest h ≡ operands n
