@@ -1,7 +1,7 @@
 use Rattle.semantics.specs.declared.operation.Binary.TheVariants.{Add}
 use Rattle.std.proofs.Common.{◌<◌, length, sym, ap, ◌∙◌, arith}
 use Rattle.grammar.specs.Words.{begins_word, binaries, binary_word}
-use Rattle.grammar.specs.Tables.{all_binaries, binary_at}
+use Rattle.grammar.specs.Tables.{all_binaries}
 use Rattle.grammar.proofs.Sought.{begins_here, begins_on, begins_none}
 use Rattle.grammar.proofs.words.begins_binary.Goals as goal
 

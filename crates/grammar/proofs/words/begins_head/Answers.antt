@@ -1,7 +1,7 @@
 use Rattle.grammar.specs.declared.symbol.Head.TheVariants.{In}
 use Rattle.std.proofs.Common.{◌<◌, length, sym, ap, ◌∙◌, arith}
 use Rattle.grammar.specs.Words.{begins_word, head_word, heads}
-use Rattle.grammar.specs.Tables.{all_heads, head_at}
+use Rattle.grammar.specs.Tables.{all_heads}
 use Rattle.grammar.proofs.Sought.{begins_here, begins_on, begins_none}
 use Rattle.grammar.proofs.words.begins_head.Goals as goal
 

@@ -1,8 +1,8 @@
-use Rattle.std.proofs.Common.{◌≡◌, ◌-◌, [], ◌∷◌, length, get_or, take, drop, Some, None, codes, sym, ap, ◌∙◌, arith}
+use Rattle.std.proofs.Common.{◌≡◌, ◌-◌, length, get_or, take, drop, Some, codes, ap, ◌∙◌, arith}
 use Rattle.semantics.specs.Shapes.{pick}
-use Rattle.semantics.specs.declared.operation.Unary.TheVariants.{Neg, Abs, Sqrt, Floor, Not}
-use Rattle.semantics.specs.declared.operation.Binary.TheVariants.{Add, Sub, Mul, Div, Less, Same, Least, Most}
-use Rattle.grammar.specs.declared.symbol.Head.TheVariants.{In, Count, Each, Both, Choose, Fold, Scan, Shape, Turn, Part, Join, Rows}
+use Rattle.semantics.specs.declared.operation.Unary.TheVariants.{Neg, Abs, Sqrt, Floor}
+use Rattle.semantics.specs.declared.operation.Binary.TheVariants.{Sub, Mul, Less, Same}
+use Rattle.grammar.specs.declared.symbol.Head.TheVariants.{Count, Each, Both, Scan}
 use Rattle.grammar.specs.Words.{same_word, find, head_word, heads, unary_word, binary_word}
 use Rattle.grammar.proofs.Sought.{none_empty, no_head, first_split}
 use Rattle.grammar.proofs.words.find_head.Goals as goal

@@ -1,7 +1,7 @@
 use Rattle.grammar.specs.declared.symbol.Head.TheVariants.{In}
 use Rattle.std.proofs.Common.{◌<◌, length, sym, ap, ◌∙◌, arith}
 use Rattle.grammar.specs.Words.{head_word, heads, same_word}
-use Rattle.grammar.specs.Tables.{all_heads, head_at}
+use Rattle.grammar.specs.Tables.{all_heads}
 use Rattle.grammar.proofs.Sought.{some_here, some_on, some_none}
 use Rattle.grammar.proofs.words.is_head.Goals as goal
 

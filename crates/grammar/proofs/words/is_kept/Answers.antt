@@ -1,6 +1,6 @@
 use Rattle.std.proofs.Common.{◌<◌, [], length, sym, ap, ◌∙◌, arith}
 use Rattle.grammar.specs.Words.{itself, kept_words, same_word}
-use Rattle.grammar.specs.Tables.{all_kept, kept_at}
+use Rattle.grammar.specs.Tables.{all_kept}
 use Rattle.grammar.proofs.Sought.{some_here, some_on, some_none}
 use Rattle.grammar.proofs.words.is_kept.Goals as goal
 
