@@ -1,4 +1,6 @@
 // Reads texts of programs: steps, or the refusal and its place.
+#![tactic(auto)]
+
 mod endings;
 mod follows;
 pub mod judging;

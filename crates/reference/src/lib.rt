@@ -1,5 +1,7 @@
 // A plain interpreter of the array language: every operation makes a new array with numbers of its own. There are
 // no views, and nothing is shared, so that the code stays close to what the language says.
+#![tactic(auto)]
+
 pub mod apply;
 pub mod array;
 pub mod brackets;

@@ -2,7 +2,7 @@
 use Rattle.std.proofs.Common.{◌≡◌, ℕ, ◌+◌, ◌≤◌, List, [], ◌∷◌, ◌++◌, length, get_or, codes, decimal, sym, refl, ap, ◌∙◌, arith}
 use Rattle.std.proofs.lemmas.List.{append_assoc}
 use Rattle.semantics.specs.Values.{Expr}
-use Rattle.semantics.specs.Programs.{Program, end, be, put, again}
+use Rattle.semantics.specs.Programs.{Program, end}
 use Rattle.program.specs.declared.step.Step.{Step}
 use Rattle.program.specs.declared.step.Step.TheVariants.{End}
 use Rattle.program.specs.Spelling.{spell_program}

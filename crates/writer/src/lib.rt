@@ -1,4 +1,6 @@
 // What is written for people: arrays as lines of text, programs as text, and what the programs print.
+#![tactic(auto)]
+
 pub mod console;
 mod digits;
 pub mod laws;

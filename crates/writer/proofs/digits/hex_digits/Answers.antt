@@ -1,6 +1,6 @@
-use Rattle.std.proofs.Common.{◌≡◌, ◌+◌, ◌-◌, ◌*◌, ◌/◌, ◌%◌, ◌^◌, ◌<◌, ◌≤◌, ◌∷◌, length, drop, set, sym, refl, ap, ◌∙◌, pow-suc, div-one, add-one, arith, length-set}
+use Rattle.std.proofs.Common.{◌≡◌, ◌+◌, ◌-◌, ◌/◌, ◌%◌, ◌^◌, ◌<◌, ◌∷◌, length, drop, set, sym, refl, ap, ◌∙◌, pow-suc, div-one, add-one, arith, length-set}
 use native.Mathlib.Nat.{div-div-eq-div-mul}
-use Rattle.std.proofs.lemmas.List.{drop-set, drop_all}
+use Rattle.std.proofs.lemmas.List.{drop-set}
 use Rattle.writer.specs.Digits.{hex_digit, hex_last, hex16}
 use Rattle.writer.proofs.digits.hex_digits.Goals as goal
 

@@ -1,4 +1,4 @@
-use Rattle.std.proofs.Common.{◌≡◌, ◌++◌, vec_items, sym, refl, ap, ◌∙◌}
+use Rattle.std.proofs.Common.{◌++◌, vec_items, sym, refl, ap, ◌∙◌}
 use Rattle.std.proofs.lemmas.List.{append_assoc}
 use Rattle.semantics.specs.Programs.{listed}
 use Rattle.encoding.specs.ShapeOf.{shape_of}

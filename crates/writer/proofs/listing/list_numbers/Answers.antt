@@ -1,16 +1,16 @@
-use Rattle.std.proofs.Common.{◌≡◌, ℕ, ◌+◌, ◌-◌, ◌*◌, ◌^◌, ◌<◌, ◌≤◌, min, List, [], ◌∷◌, ◌++◌, length, get_or, take, drop, vec_items, sym, refl, ap, ◌∙◌, arith}
+use Rattle.std.proofs.Common.{◌≡◌, ℕ, ◌+◌, ◌-◌, ◌*◌, ◌^◌, ◌<◌, ◌≤◌, min, List, [], ◌∷◌, ◌++◌, length, get_or, drop, vec_items, sym, ap, ◌∙◌, arith}
 use Rattle.std.proofs.lemmas.List.{append_assoc, append-nil, drop_more, drop_all}
 use Rattle.semantics.specs.Shapes.{size}
 use Rattle.semantics.specs.Programs.{listed}
 use Rattle.encoding.specs.declared.header.Header.{Header}
 use Rattle.encoding.specs.ShapeOf.{shape_of}
-use Rattle.encoding.specs.Format.{shape_at, start_at, next_at, number_at, array_at}
+use Rattle.encoding.specs.Format.{shape_at, number_at, array_at}
 use Rattle.encoding.specs.Headers.{Heads}
 use Rattle.encoding.proofs.Formats.{next_at_is}
 use Rattle.encoding.proofs.Rows.{good_at_parts}
 use Rattle.encoding.proofs.Listed.{length_listed, get_d_listed}
 use Rattle.writer.specs.Digits.{hex16}
-use Rattle.writer.specs.Listing.{row_length, gap, numbers_text}
+use Rattle.writer.specs.Listing.{gap, numbers_text}
 use Rattle.writer.proofs.listing.list_numbers.Goals as goal
 
 -- all numbers lie in the bytes

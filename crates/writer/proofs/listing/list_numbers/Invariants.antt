@@ -1,8 +1,7 @@
 use Rattle.std.proofs.Common.{◌≡◌, ◌++◌, drop, vec_items}
 use Rattle.semantics.specs.Programs.{listed}
-use Rattle.encoding.specs.ShapeOf.{shape_of}
 use Rattle.encoding.specs.Format.{array_at}
-use Rattle.writer.specs.Listing.{row_length, numbers_text}
+use Rattle.writer.specs.Listing.{numbers_text}
 use Rattle.writer.proofs.listing.list_numbers.Given as goal
 
 abbrev pub invariant-loop-k : goal.invariant-loop-k
