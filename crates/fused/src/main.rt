@@ -1,5 +1,7 @@
 // fused [--places N] [--input FILE].. [--shown BYTES] [--time] PROGRAM: runs a program over the arrays of its
 // input files, in memory that is set aside before it starts.
+#![tactic(auto)]
+
 use anyhow::anyhow;
 use report::report;
 use runtime::answer::Answer;

@@ -1,4 +1,6 @@
 // meaning [--places N] [--input FILE].. [--shown BYTES] PROGRAM: does each line of a program by itself with new arrays.
+#![tactic(auto)]
+
 use reference::serving::serve;
 
 const USAGE: &str = "meaning [--places N] [--input FILE].. [--shown BYTES] PROGRAM";

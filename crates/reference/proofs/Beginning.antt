@@ -1,30 +1,22 @@
 -- Where a program begins, and how it ends.
-use Rattle.std.proofs.Common.{◌≡◌, ℕ, zero, suc, ◌+◌, ◌^◌, ◌≤◌, List, [], ◌∷◌, ◌++◌, length, get_or, Ok, Err, vec_items, Result, Vec, sym, refl, ap, ◌∙◌, subst, add-one, arith}
+use Rattle.std.proofs.Common.{◌≡◌, ℕ, zero, suc, ◌+◌, ◌^◌, ◌≤◌, List, [], ◌∷◌, ◌++◌, length, get_or, Ok, Err, vec_items, Vec, sym, refl, ap, ◌∙◌, subst, add-one, arith}
 use Rattle.std.specs.declared.alloc.Global.{Global}
 use Rattle.std.proofs.lemmas.List.{length-map}
-use Rattle.semantics.specs.Values.{Cell, none, some}
+use Rattle.semantics.specs.Values.{none}
 use Rattle.semantics.specs.Programs as meaning
 use Rattle.semantics.specs.Programs.{Program, Shown, cell_size, nothing, begin, run, shows, ends}
 use Rattle.semantics.specs.ValueLaws.{LikeNames}
-use Rattle.semantics.specs.RunLaws.{Begins}
 use Rattle.semantics.proofs.LikeRuns.{like_cell}
-use Rattle.numbers.specs.Operations.{binary64}
-use Rattle.encoding.specs.Format.{inputs_of}
 use Rattle.encoding.specs.ReadBack.{shown_bytes}
-use Rattle.program.specs.Spelling.{spell_program}
 use Rattle.program.specs.Words.{steps_in}
-use Rattle.program.specs.Standing.{steps_from, Closed, nothing as no_steps, Runs}
+use Rattle.program.specs.Standing.{steps_from, nothing as no_steps, Runs}
 use Rattle.reference.specs.declared.fault.Fault.{Fault}
-use Rattle.reference.specs.declared.fault.Stop.{Stop}
 use Rattle.reference.specs.declared.fault.Stop.TheVariants.{Fault as Faulty, Memory}
-use Rattle.reference.specs.declared.interpret.End.{End}
 use Rattle.reference.specs.declared.interpret.End.TheVariants.{Done, Fault as End-fault, Memory as End-memory}
-use Rattle.reference.specs.declared.interpret.Outcome.{Outcome}
 use Rattle.reference.specs.declared.names.Cell as owned
 use Rattle.reference.specs.declared.state.State.{State}
 use Rattle.reference.specs.CellsOf.{cell_of, cells_of, sizes}
-use Rattle.reference.specs.Faults.{fault_number}
-use Rattle.reference.specs.Running.{Stood, Went, went, faulted, wanting, SmallNames}
+use Rattle.reference.specs.Running.{Stood, faulted, wanting, SmallNames}
 use Rattle.reference.specs.Lines.{LinesEnd, done, halted, LinesRun}
 use Rattle.reference.specs.Interpreting.{ProgramStands, Ends, ends_done, ends_fault, ends_memory, Interprets}
 

@@ -1,10 +1,10 @@
 -- Broadcasting length by length.
-use Rattle.std.proofs.Common.{◌≡◌, ℕ, zero, suc, ◌+◌, ◌-◌, ◌<◌, ◌≤◌, max, Bool, true, false, ◌&&◌, ◌||◌, eqb, ◌≢◌, List, [], ◌∷◌, ◌++◌, reverse, length, get_or, take, drop, set, sym, refl, ap, ◌∙◌, subst, arith, length-drop, length-set, below_more}
+use Rattle.std.proofs.Common.{◌≡◌, ℕ, zero, suc, ◌+◌, ◌-◌, ◌<◌, ◌≤◌, max, Bool, true, false, ◌||◌, eqb, ◌≢◌, List, [], ◌∷◌, reverse, length, get_or, take, drop, set, sym, refl, ap, ◌∙◌, arith, length-drop, length-set, below_more}
 use Rattle.std.proofs.lemmas.List.{length-reverse, get_or-reverse, get_or-drop, get_or_default, ext_get_or, get_or-take, length-take-le, get_or-set_same, get_or-set_other}
 use Rattle.std.proofs.lemmas.Bool.{and_from, and_left, and_right}
 use Rattle.semantics.specs.Shapes.{pick, In}
 use Rattle.semantics.specs.Broadcast.{joins, joined, fit, wide, pinned, narrow}
-use Rattle.semantics.proofs.Places.{Inside, inside_in, in_inside, length_inside}
+use Rattle.semantics.proofs.Places.{inside_in, in_inside, length_inside}
 use Rattle.semantics.proofs.Inside.{Spreads, inside_narrow}
 use Rattle.reference.specs.Broadcasts.{Widened, Reaches}
 

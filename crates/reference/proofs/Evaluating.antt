@@ -1,21 +1,19 @@
 -- Evaluation, operand after operand.
-use Rattle.std.proofs.Common.{◌≡◌, ℕ, ◌+◌, ◌-◌, ◌<◌, ◌≤◌, List, length, IsErrAnd, Ok, Err, Result, Vec, sym, refl, ap, ◌∙◌, subst, arith}
+use Rattle.std.proofs.Common.{◌≡◌, ℕ, ◌+◌, ◌-◌, ◌<◌, ◌≤◌, List, length, IsErrAnd, Ok, Err, Result, Vec, sym, ap, subst, arith}
 use Rattle.std.specs.declared.alloc.Global.{Global}
 use Rattle.std.proofs.lemmas.Result.{err_from_is_err_and}
 use Rattle.semantics.specs.Shapes.{size}
 use Rattle.semantics.specs.Arrays.{Array, Alike}
-use Rattle.semantics.specs.Values.{Expr, choose, Value, fault, val, value, on_choose}
-use Rattle.semantics.specs.ValueLaws.{LikeValues, like_fault, like_val}
+use Rattle.semantics.specs.Values.{Expr, choose, Value, val, value, on_choose}
+use Rattle.semantics.specs.ValueLaws.{LikeValues, like_val}
 use Rattle.semantics.proofs.Runs.{Within, faulty, counted, value_within}
 use Rattle.numbers.specs.Operations.{binary64}
 use Rattle.encoding.specs.Format.{inputs_of}
-use Rattle.encoding.specs.ShapeOf.{shape_of}
 use Rattle.program.specs.declared.step.Step.{Step}
 use Rattle.program.specs.Spelling.{spell}
 use Rattle.program.specs.Words.{steps_in, At}
 use Rattle.program.specs.Standing.{steps_from, Stands, Skips}
 use Rattle.program.proofs.Nodes.{stands_there, expr_further}
-use Rattle.reference.specs.declared.evaluate.Arity.{Arity}
 use Rattle.reference.specs.declared.evaluate.Arity.TheVariants.{Zero, One as Single, Two as Double, Three as Triple}
 use Rattle.reference.specs.declared.evaluate.Valued.{Valued}
 use Rattle.reference.specs.declared.fault.Stop.{Stop}
@@ -26,9 +24,9 @@ use Rattle.reference.specs.Brackets.{SkipsBrackets}
 use Rattle.reference.specs.CellsOf.{cells_of, sizes}
 use Rattle.reference.specs.Operands.{arity_of, Leaf, One, Two}
 use Rattle.reference.specs.Right.{Right}
-use Rattle.reference.specs.Evaluation.{made_of, Evaluates}
+use Rattle.reference.specs.Evaluation.{Evaluates}
 use Rattle.reference.proofs.Rights.{right_is, right_ok}
-use Rattle.reference.proofs.Operating.{LeafAt, leaf_at, OneAt, one_at, TwoAt, two_at, ThreeAt, three_at, stop_one, right_one, stop_two, stop_two_second, right_two, stop_three, stop_three_second, stop_three_third, right_three}
+use Rattle.reference.proofs.Operating.{leaf_at, OneAt, one_at, TwoAt, two_at, ThreeAt, three_at, stop_one, right_one, stop_two, stop_two_second, right_two, stop_three, stop_three_second, stop_three_third, right_three}
 
 -- right for every expression that stands at i
 pub record Rightly (ws bs : List ℕ) (names : Vec Cell Global) (i n : ℕ) (out : Result Made Stop) : Type 0 where

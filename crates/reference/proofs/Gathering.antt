@@ -1,11 +1,11 @@
 -- Rows looked up one number after the other.
-use Rattle.std.proofs.Common.{◌≡◌, ℕ, zero, suc, ◌+◌, ◌-◌, ◌<◌, ◌≤◌, Bool, true, false, ◌&&◌, ltb, List, [], ◌∷◌, ◌++◌, length, get_or, take, drop, vec_items, vec_len, sym, refl, ap, ◌∙◌, subst, inl, inr, add-one, arith}
+use Rattle.std.proofs.Common.{◌≡◌, ℕ, zero, suc, ◌+◌, ◌-◌, ◌<◌, ◌≤◌, true, false, ◌&&◌, ltb, List, [], ◌∷◌, ◌++◌, length, get_or, drop, vec_items, sym, ap, ◌∙◌, subst, inl, inr, add-one, arith}
 use Rattle.std.proofs.lemmas.Bool.{and_parts, ltb-true, lt-ltb, le-ltb, cases_lt}
-use Rattle.semantics.specs.Shapes.{size, In, flat, unflat, up_to}
+use Rattle.semantics.specs.Shapes.{size, flat, unflat, up_to}
 use Rattle.semantics.specs.Arrays as meaning
 use Rattle.semantics.specs.Arrays.{Numbers, all_below, rows_there}
-use Rattle.semantics.proofs.Places.{Inside, no_axes, axis, inside_in, in_inside, unflat_flat, flat_unflat, flat_below}
-use Rattle.semantics.proofs.Inside.{inside_take, inside_drop}
+use Rattle.semantics.proofs.Places.{Inside, axis, unflat_flat, flat_unflat, flat_below}
+use Rattle.semantics.proofs.Inside.{inside_drop}
 use Rattle.encoding.specs.ShapeOf.{shape_of}
 use Rattle.reference.specs.declared.array.Array.{Array}
 use Rattle.reference.specs.ArrayOf.{array_of}

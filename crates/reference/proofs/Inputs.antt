@@ -1,13 +1,11 @@
 -- Inputs by their number.
-use Rattle.std.proofs.Common.{◌≡◌, ℕ, zero, suc, ◌+◌, ◌*◌, ◌<◌, ◌≤◌, List, [], ◌∷◌, map, length, get_or, sym, refl, ap, ◌∙◌, subst, arith}
-use Rattle.std.proofs.lemmas.List.{length-map}
+use Rattle.std.proofs.Common.{◌≡◌, ℕ, zero, suc, ◌+◌, ◌*◌, ◌<◌, ◌≤◌, List, [], ◌∷◌, map, length, get_or, refl, ap, arith}
 use Rattle.semantics.specs.Shapes.{size}
 use Rattle.semantics.specs.Arrays.{Array}
-use Rattle.semantics.specs.Values.{Cell, none, some, given}
+use Rattle.semantics.specs.Values.{none, some, given}
 use Rattle.encoding.specs.declared.header.Header.{Header}
 use Rattle.encoding.specs.ShapeOf.{shape_of}
 use Rattle.encoding.specs.Format.{array_at, offsets, inputs_of}
-use Rattle.encoding.specs.Headers.{Heads}
 use Rattle.encoding.specs.Inputs.{Found}
 use Rattle.encoding.proofs.Formats.{next_at_is}
 use Rattle.encoding.proofs.Rows.{good_at_parts}

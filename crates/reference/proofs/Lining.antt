@@ -1,5 +1,5 @@
 -- Lines one after the other.
-use Rattle.std.proofs.Common.{◌≡◌, ℕ, zero, suc, ◌+◌, ◌-◌, ◌<◌, ◌≤◌, eqb, List, [], ◌∷◌, length, get_or, IsErrAnd, IfOk, Ok, Err, Result, sym, refl, ap, ◌∙◌, subst, arith}
+use Rattle.std.proofs.Common.{◌≡◌, ℕ, zero, suc, ◌+◌, ◌-◌, ◌<◌, ◌≤◌, eqb, List, ◌∷◌, length, get_or, IsErrAnd, IfOk, Ok, Err, Result, sym, refl, ap, ◌∙◌, subst, arith}
 use Rattle.std.proofs.lemmas.Result.{IfOk-weaker, err_from_is_err_and}
 use Rattle.semantics.specs.Shapes.{pick}
 use Rattle.semantics.specs.Parts.{Part}
@@ -7,7 +7,6 @@ use Rattle.semantics.specs.Arrays.{Array}
 use Rattle.semantics.specs.Values.{Expr, none}
 use Rattle.semantics.specs.Programs as meaning
 use Rattle.semantics.specs.Programs.{Program, end, be, put, show, again, becomes, is_put, is_shown, times, value_in, run}
-use Rattle.semantics.specs.RunLaws.{Begins}
 use Rattle.semantics.proofs.Runs.{ended_stays, begins_trans, shown_stays}
 use Rattle.numbers.specs.Operations.{binary64}
 use Rattle.encoding.specs.Format.{inputs_of}
@@ -15,8 +14,8 @@ use Rattle.program.specs.declared.step.Step.{Step}
 use Rattle.program.specs.declared.step.Step.TheVariants.{End, Let, Put, Show, Again, Name, Input, Constant, Count as Counting, Each, Both, Choose, Fold, Scan, Shape, Turn, Part as Cut, Join, Rows, Item, Slice}
 use Rattle.program.specs.Spelling.{slices, spell, spell_program}
 use Rattle.program.specs.Words.{steps_in, At}
-use Rattle.program.specs.Standing.{steps_from, Stands, SlicesStand, Skips, Closes, Closed, closed, Runs, OpensLine, LinesView, is_end, is_let, is_put as is-put-line, is_show, is_again}
-use Rattle.program.proofs.Nodes.{lines_view, lines_none, expr_further, let_operand, let_lines, show_operand, show_lines, put_slices, again_body, again_lines, runs_opens, slices_there, length_from}
+use Rattle.program.specs.Standing.{steps_from, SlicesStand, Skips, Closes, Closed, closed, Runs, OpensLine, LinesView, is_end, is_let, is_put as is-put-line, is_show, is_again}
+use Rattle.program.proofs.Nodes.{lines_view, lines_none, expr_further, let_operand, let_lines, show_operand, show_lines, put_slices, again_lines, runs_opens, length_from}
 use Rattle.program.proofs.Lengths.{length_slices, length_spell, marks_some}
 use Rattle.reference.specs.declared.fault.Fault.{Fault}
 use Rattle.reference.specs.declared.fault.Fault.TheVariants.{Shapes, Axes, Count, Range, Places, Nothing}

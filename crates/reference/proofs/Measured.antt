@@ -1,7 +1,7 @@
 -- How long shapes and slices are.
-use Rattle.std.proofs.Common.{◌≡◌, ℕ, suc, ◌≤◌, true, List, [], ◌∷◌, length, take, refl, ap, arith, length-take}
+use Rattle.std.proofs.Common.{◌≡◌, ℕ, suc, ◌≤◌, true, List, [], ◌∷◌, length, refl, ap, arith, length-take}
 use Rattle.std.proofs.lemmas.Bool.{and_parts}
-use Rattle.semantics.specs.Parts.{Part, part_fits, parts_fit}
+use Rattle.semantics.specs.Parts.{Part, parts_fit}
 use Rattle.encoding.specs.declared.shape.Shape.{Shape}
 use Rattle.encoding.specs.ShapeOf.{shape_of}
 

@@ -1,5 +1,5 @@
 -- How long shapes and places by value are.
-use Rattle.std.proofs.Common.{◌≡◌, ℕ, ◌≤◌, length, arith, length-take}
+use Rattle.std.proofs.Common.{◌≤◌, length, arith, length-take}
 use Rattle.encoding.specs.declared.shape.Shape.{Shape}
 use Rattle.encoding.specs.ShapeOf.{shape_of}
 use Rattle.reference.specs.declared.place.Place.{Place}

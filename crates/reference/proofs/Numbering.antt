@@ -1,11 +1,11 @@
 -- The number of a place one axis after the other, and the place of a number with the last axis first.
-use Rattle.std.proofs.Common.{◌≡◌, ℕ, zero, suc, ◌+◌, ◌-◌, ◌*◌, ◌/◌, ◌%◌, ◌<◌, ◌≤◌, List, [], ◌∷◌, ◌++◌, length, get_or, take, drop, set, sym, refl, ap, ◌∙◌, subst, mod-lt, mod-eq_of_lt, mul_assoc, mul_comm, add-mul, mul-le-mul_left, mul-zero, zero-mul, mul-one, div-one, arith}
+use Rattle.std.proofs.Common.{◌≡◌, ℕ, zero, suc, ◌+◌, ◌-◌, ◌*◌, ◌/◌, ◌%◌, ◌<◌, ◌≤◌, List, [], ◌∷◌, ◌++◌, length, get_or, take, drop, set, sym, ap, ◌∙◌, mod-lt, mod-eq_of_lt, mul_assoc, mul_comm, add-mul, mul-le-mul_left, mul-zero, zero-mul, mul-one, div-one, arith}
 use native.Mathlib.Nat.{div-div-eq-div-mul}
 use lib.Arith.{digits_div, digits_mod, mod-mul}
-use Rattle.std.proofs.lemmas.Nat.{div_below, mod_below}
+use Rattle.std.proofs.lemmas.Nat.{div_below}
 use Rattle.std.proofs.lemmas.List.{take_more, take-take, drop-set, length-take-le, append_assoc}
-use Rattle.semantics.specs.Shapes.{size, In, flat, unflat}
-use Rattle.semantics.proofs.Places.{Inside, no_axes, axis, inside_in, flat_below}
+use Rattle.semantics.specs.Shapes.{size, flat, unflat}
+use Rattle.semantics.proofs.Places.{Inside, no_axes, axis, flat_below}
 use Rattle.encoding.proofs.Sizes.{size_push}
 
 pub flat_push : (s is : List ℕ) (d i : ℕ) → length is ≡ length s → flat (s ++ d ∷ []) (is ++ i ∷ []) ≡ flat s is * d + i

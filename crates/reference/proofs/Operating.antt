@@ -1,10 +1,10 @@
 -- Expressions by their first step: their operands, and what the operation makes of the operands' arrays.
-use Rattle.std.proofs.Common.{◌≡◌, ℕ, ◌+◌, ◌-◌, ◌<◌, ◌≤◌, Bool, List, [], ◌∷◌, get_or, Ok, Err, Result, sym, refl, ap, ◌∙◌, subst, arith}
+use Rattle.std.proofs.Common.{◌≡◌, ℕ, ◌+◌, ◌-◌, List, [], get_or, Err, Result, refl, arith}
 use Rattle.semantics.specs.declared.operation.Unary.{Unary}
 use Rattle.semantics.specs.declared.operation.Binary.{Binary}
 use Rattle.semantics.specs.Parts.{Part}
 use Rattle.semantics.specs.Arrays.{Array, constant_array, count_array}
-use Rattle.semantics.specs.Values.{Expr, name, input, constant, count, each, both, choose, fold, scan, shape_to, turn, part, join, rows, Cell, none, Value, fault, val, then, made, held, given, value, on_each, on_both, on_choose, on_fold, on_scan, on_shape, on_turn, on_part, on_join, on_rows}
+use Rattle.semantics.specs.Values.{Expr, choose, Cell, none, Value, fault, val, then, made, held, given, value, on_each, on_both, on_choose, on_fold, on_scan, on_shape, on_turn, on_part, on_join, on_rows}
 use Rattle.semantics.specs.ValueLaws.{LikeValues, like_fault, like_val}
 use Rattle.semantics.proofs.Likes.{Twins, twins_refl, alike_twins, likes_then, likes_on_each, likes_on_both, likes_on_choose, likes_on_fold, likes_on_scan, likes_on_shape, likes_on_turn, likes_on_part, likes_on_join, likes_on_rows}
 use Rattle.numbers.specs.Operations.{binary64}
@@ -14,7 +14,6 @@ use Rattle.program.specs.Spelling.{items, slices, spell}
 use Rattle.program.specs.Words.{At}
 use Rattle.program.specs.Standing.{steps_from, View, is_name, is_input, is_constant, is_count, is_each, is_both, is_choose, is_fold, is_scan, is_shape, is_turn, is_part, is_join, is_rows}
 use Rattle.program.proofs.Nodes.{expr_view}
-use Rattle.reference.specs.declared.evaluate.Arity.{Arity}
 use Rattle.reference.specs.declared.evaluate.Arity.TheVariants.{Zero, One as Single, Two as Double, Three as Triple}
 use Rattle.reference.specs.declared.fault.Stop.{Stop}
 use Rattle.reference.specs.declared.made.Made.{Made}

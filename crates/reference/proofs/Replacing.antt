@@ -1,7 +1,7 @@
 -- When an array can be put into a part.
-use Rattle.std.proofs.Common.{◌≡◌, ℕ, Bool, true, false, ◌&&◌, List, sym, refl, ap, ◌∙◌, subst}
+use Rattle.std.proofs.Common.{◌≡◌, ℕ, true, false, ◌&&◌, List, sym, ap, ◌∙◌, subst}
 use Rattle.std.proofs.lemmas.Bool.{and_parts, and_left}
-use Rattle.semantics.specs.Shapes.{In, same}
+use Rattle.semantics.specs.Shapes.{same}
 use Rattle.semantics.specs.Broadcast.{fit, wide}
 use Rattle.semantics.specs.Parts.{Part, part_shape, in_parts, which_one}
 use Rattle.semantics.specs.Arrays.{Array, can_put}

@@ -1,21 +1,18 @@
 -- Answers that are right: of what is made, of a value that goes on, and of one like another.
-use Rattle.std.proofs.Common.{◌≡◌, ℕ, ◌+◌, ◌<◌, ◌≤◌, Bool, true, false, leb, List, [], ◌∷◌, IfOk, Ok, Err, Result, sym, refl, ap, ◌∙◌, subst, arith}
+use Rattle.std.proofs.Common.{◌≡◌, ℕ, ◌+◌, ◌<◌, ◌≤◌, Bool, true, false, IfOk, Ok, Err, Result, sym, ap, ◌∙◌, subst, arith}
 use Rattle.std.proofs.lemmas.Bool.{le-leb, lt-leb}
 use Rattle.std.specs.declared.alloc.AllocError.{AllocError}
-use Rattle.std.specs.Vec as vec
 use Rattle.semantics.specs.Shapes.{pick, size}
 use Rattle.semantics.specs.Arrays.{Array, Alike}
 use Rattle.semantics.specs.Values.{Value, fault, val, then, made}
 use Rattle.semantics.specs.ValueLaws.{LikeValues, like_fault, like_val}
 use Rattle.semantics.proofs.Likes.{Twins, twins, alike_twins, twins_alike}
 use Rattle.reference.specs.declared.array.Array as owned
-use Rattle.reference.specs.declared.fault.Fault.{Fault}
 use Rattle.reference.specs.declared.fault.Fault.TheVariants.{Places}
 use Rattle.reference.specs.declared.fault.Stop.{Stop}
-use Rattle.reference.specs.declared.fault.Stop.TheVariants.{Fault as Faulty, Memory}
+use Rattle.reference.specs.declared.fault.Stop.TheVariants.{Fault as Faulty}
 use Rattle.reference.specs.declared.made.Made.{Made}
 use Rattle.reference.specs.ArrayOf.{array_of}
-use Rattle.reference.specs.Faults.{fault_number}
 use Rattle.reference.specs.Finishing.{finished}
 use Rattle.reference.specs.Right.{Right, right_made, right_fault, right_memory}
 

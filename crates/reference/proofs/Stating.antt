@@ -1,22 +1,20 @@
 -- Statements, against the meaning's states.
-use Rattle.std.proofs.Common.{◌≡◌, ℕ, zero, suc, ◌+◌, ◌-◌, ◌^◌, ◌<◌, ◌≤◌, Bool, true, false, ltb, List, [], ◌∷◌, ◌++◌, map, length, get_or, set, IsErrAnd, Ok, Err, vec_items, vec_len, Result, Vec, sym, refl, ap, ◌∙◌, subst, arith, length-set}
+use Rattle.std.proofs.Common.{◌≡◌, ℕ, zero, suc, ◌-◌, ◌^◌, ◌<◌, ◌≤◌, true, false, List, [], ◌∷◌, ◌++◌, map, length, get_or, set, IsErrAnd, Ok, Err, vec_items, Result, Vec, sym, refl, ap, ◌∙◌, subst, arith, length-set}
 use Rattle.std.specs.declared.alloc.Global.{Global}
-use Rattle.std.specs.List.{flat_map}
 use Rattle.std.proofs.lemmas.Result.{err_from_is_err_and}
 use Rattle.std.proofs.lemmas.List.{length-map, map-set, flat_map_more}
 use Rattle.std.proofs.lemmas.Bool.{lt-ltb, le-ltb}
-use Rattle.semantics.specs.Shapes.{pick, size, flat, unflat, up_to}
+use Rattle.semantics.specs.Shapes.{pick, size}
 use Rattle.semantics.specs.Parts.{Part, parts_fit}
 use Rattle.semantics.specs.Arrays.{Array, Alike, can_put, put_array}
 use Rattle.semantics.specs.Values.{Expr, Value, fault, val, none, some, value}
 use Rattle.semantics.specs.Values as values
 use Rattle.semantics.specs.Programs as meaning
 use Rattle.semantics.specs.Programs.{Shown, cell_size, in_names, numbers_at, listed, stopped, with_name, becomes, is_put, is_shown, value_in}
-use Rattle.semantics.specs.ValueLaws.{LikeCells, like_none, like_some, LikeValues, like_fault, like_val, LikeNames}
-use Rattle.semantics.specs.RunLaws.{Begins}
-use Rattle.semantics.proofs.Likes.{Twins, alike_twins, twins_alike, value_likes}
+use Rattle.semantics.specs.ValueLaws.{LikeCells, like_none, like_some, LikeValues, like_val, LikeNames}
+use Rattle.semantics.proofs.Likes.{alike_twins, twins_alike, value_likes}
 use Rattle.semantics.proofs.LikeRuns.{in_names_like, like_set, listed_same, put_twins, like_cell}
-use Rattle.semantics.proofs.Runs.{Since, since_becomes, since_is_put, since_is_shown}
+use Rattle.semantics.proofs.Runs.{Since, since_becomes, since_is_shown}
 use Rattle.semantics.proofs.Listings.{numbers_at_is}
 use Rattle.semantics.proofs.Places.{flat_unflat}
 use Rattle.numbers.specs.Operations.{binary64}
@@ -24,22 +22,20 @@ use Rattle.encoding.specs.ShapeOf.{shape_of}
 use Rattle.encoding.specs.Writing.{array_bytes}
 use Rattle.encoding.specs.ReadBack.{shown_bytes}
 use Rattle.reference.specs.declared.array.Array as owned
-use Rattle.reference.specs.declared.fault.Fault.{Fault}
 use Rattle.reference.specs.declared.fault.Fault.TheVariants.{Shapes, Range, Nothing}
 use Rattle.reference.specs.declared.fault.Stop.{Stop}
 use Rattle.reference.specs.declared.fault.Stop.TheVariants.{Fault as Faulty, Memory}
 use Rattle.reference.specs.declared.evaluate.Valued.{Valued}
 use Rattle.reference.specs.declared.made.Made.{Made}
 use Rattle.reference.specs.declared.names.Cell.{Cell}
-use Rattle.reference.specs.declared.names.Cell.TheVariants.{Empty, Holds}
+use Rattle.reference.specs.declared.names.Cell.TheVariants.{Holds}
 use Rattle.reference.specs.declared.state.State.{State}
 use Rattle.reference.specs.ArrayOf.{array_of}
 use Rattle.reference.specs.CellsOf.{cell_of, cells_of, sizes}
-use Rattle.reference.specs.Faults.{fault_number}
-use Rattle.reference.specs.Right.{Right, right_made, right_fault, right_memory}
+use Rattle.reference.specs.Right.{Right, right_fault, right_memory}
 use Rattle.reference.specs.Running.{Stood, Went, went, faulted, wanting, SmallNames, Replaces, replaces, replaces_not, replaces_wanting, ReplacesIn}
 use Rattle.reference.proofs.Cells.{cell_there}
-use Rattle.reference.proofs.Rights.{right_like, right_ok, twins_trans, alike_back}
+use Rattle.reference.proofs.Rights.{right_ok, twins_trans, alike_back}
 
 -- ---- an expression of a statement
 pub value_in_like : (p n : ℕ) (ins : List (Array ℕ)) (t : meaning.State ℕ) (ns : List (values.Cell ℕ)) (e : Expr ℕ) → LikeNames t.names ns → n ≡ p - in_names ns → LikeValues (value_in (sizes p) binary64 ins t e) (value (sizes p) binary64 ins ns n e)

@@ -5,7 +5,7 @@ use Rattle.semantics.specs.declared.operation.Unary.{Unary}
 use Rattle.semantics.specs.declared.operation.Binary.{Binary}
 use Rattle.semantics.specs.Parts.{Part}
 use Rattle.semantics.specs.Arrays.{Array}
-use Rattle.semantics.specs.Values.{Expr, name, input, constant, count, each, both, choose, fold, scan, shape_to, turn, part, join, rows, Value, on_each, on_both, on_choose, on_fold, on_scan, on_shape, on_turn, on_part, on_join, on_rows}
+use Rattle.semantics.specs.Values.{Expr, name, input, constant, count, each, both, fold, scan, shape_to, turn, part, join, rows, Value, on_each, on_both, on_fold, on_scan, on_shape, on_turn, on_part, on_join, on_rows}
 use Rattle.numbers.specs.Operations.{binary64}
 use Rattle.program.specs.declared.step.Step.{Step}
 use Rattle.program.specs.declared.step.Step.TheVariants.{End, Let, Put, Show, Again, Name, Input, Constant, Count, Each, Both, Choose, Fold, Scan, Shape, Turn, Part as Cut, Join, Rows, Item, Slice}

@@ -1,4 +1,6 @@
 // rewrite PROGRAM: prints a program's text anew.
+#![tactic(auto)]
+
 use anyhow::anyhow;
 use reader::refusal::{refusal_number, refusal_place};
 use std::io::Write;

@@ -1,9 +1,8 @@
 -- A text that is taken, and what follows for its steps.
-use Rattle.std.proofs.Common.{◌≡◌, ℕ, zero, suc, ◌+◌, ◌-◌, ◌*◌, ◌/◌, ◌%◌, ◌^◌, ◌<◌, ◌≤◌, Bool, true, false, cond, not, ◌&&◌, eqb, ltb, List, [], ◌∷◌, length, get_or, take, drop, sym, refl, ap, ◌∙◌, subst, ⊎_elim, arith, get_or-take}
+use Rattle.std.proofs.Common.{◌≡◌, ℕ, ◌-◌, ◌*◌, ◌<◌, ◌≤◌, Bool, true, false, cond, List, [], ◌∷◌, length, get_or, take, drop, sym, refl, ap, ◌∙◌, subst, arith, get_or-take}
 use lib.Ieee.{nan_bits, binary64}
 use lib.Ieee.Bits.{nan_bits_above}
 use Rattle.std.proofs.lemmas.List.{length-take-le}
-use Rattle.std.proofs.lemmas.Bool.{and_parts, eqb-true, lt-ltb}
 use Rattle.semantics.specs.Shapes.{pick}
 use Rattle.semantics.specs.Parts.{Part}
 use Rattle.semantics.specs.Values.{Expr}
@@ -17,8 +16,7 @@ use Rattle.program.specs.Spelling.{items, slices, spell, spell_program}
 use Rattle.grammar.specs.Constants.{canonical}
 use Rattle.grammar.specs.Sayable.{Fits, fit_name, fit_input, fit_constant, fit_count, fit_each, fit_both, fit_choose, fit_fold, fit_scan, fit_shape, fit_turn, fit_part, fit_join, fit_rows, FitLines, fit_end, fit_be, fit_put, fit_show, fit_again, Canonical}
 use Rattle.grammar.specs.Texts.{Reads, Verdict, taken, no_program, too_much, Judged, is_taken}
-use Rattle.grammar.specs.Automaton.{Answer, took, refused_7, refused_8, answer_to, answer_of}
-use Rattle.grammar.specs.TextLaws.{Answered}
+use Rattle.grammar.specs.Automaton.{took, refused_7, refused_8, answer_to, answer_of}
 use Rattle.grammar.proofs.TextLaws.{answers_verdict}
 use Rattle.grammar.proofs.Canonicals.{lines_canonical}
 use Rattle.reader.specs.declared.judging.Verdict.TheVariants.{Taken as Took-steps}

@@ -1,10 +1,10 @@
 -- A name that gets a new buffer, or a view that is there already.
-use Rattle.std.proofs.Common.{◌≡◌, ℕ, ◌+◌, ◌-◌, ◌<◌, ◌≤◌, max, Bool, true, false, leb, ◌⊎◌, List, [], ◌∷◌, length, get_or, take, set, sym, refl, ap, ◌∙◌, subst, inl, inr, ⊎_elim, arith}
+use Rattle.std.proofs.Common.{◌≡◌, ℕ, ◌+◌, ◌<◌, ◌≤◌, Bool, true, false, leb, List, length, get_or, take, sym, ap, ◌∙◌, subst, inl, inr, ⊎_elim, arith}
 use Rattle.std.proofs.lemmas.List.{length-take-le, take-take}
-use Rattle.semantics.specs.Shapes.{pick, size, In, flat, unflat}
+use Rattle.semantics.specs.Shapes.{pick, size, flat, unflat}
 use Rattle.semantics.specs.Arrays.{Array}
 use Rattle.semantics.specs.Values.{Expr, Cell, some, fault, val, made, held, value}
-use Rattle.semantics.proofs.Places.{Inside, inside_in, flat_below, unflat_flat}
+use Rattle.semantics.proofs.Places.{inside_in, flat_below, unflat_flat}
 use Rattle.numbers.specs.Operations.{binary64}
 use Rattle.encoding.specs.declared.header.Header.{Header}
 use Rattle.encoding.specs.Headers.{Heads}
@@ -18,15 +18,15 @@ use Rattle.program.specs.Standing.{steps_from, View as View-at, is_name, is_inpu
 use Rattle.program.proofs.Nodes.{expr_view}
 use Rattle.views.specs.declared.view.Source.TheVariants.{Area, Input as From}
 use Rattle.views.specs.declared.view.View.{View}
-use Rattle.views.specs.Views.{Good, Holds, Whole, Laid}
+use Rattle.views.specs.Views.{Holds, Whole, Laid}
 use Rattle.kernels.specs.declared.slot.Slot.{Slot}
 use Rattle.kernels.specs.declared.slot.Slot.TheVariants.{Empty, Held}
 use Rattle.kernels.specs.Trees.{tree}
 use Rattle.kernels.specs.Filling.{Tabled, Ready, Stored}
 use Rattle.memory.specs.declared.memory.Memory.{Memory}
 use Rattle.kernels.proofs.Feeding.{slot_cell, input_there}
-use Rattle.memory.specs.Spans.{in_area, low_of, high_of, slot_size, loose_size, GoodSlot, Fills}
-use Rattle.memory.specs.Tables.{Neat, Counted, AllFill, Carries, Bound}
+use Rattle.memory.specs.Spans.{in_area, low_of, high_of, slot_size, GoodSlot, Fills}
+use Rattle.memory.specs.Tables.{AllFill, Carries, Bound}
 use Rattle.memory.proofs.Slotted.{area_low, area_high, fills_loose}
 use Rattle.memory.proofs.Holding.{bound_neat, bound_fills, bound_tabled, area_grows, apart_above, apart_shared}
 use Rattle.runtime.specs.Planning.{sizes}

@@ -1,11 +1,11 @@
 -- Where all steps are built, so are those of every expression and line, and each is a tree.
-use Rattle.std.proofs.Common.{◌≡◌, ℕ, zero, suc, ◌+◌, ◌<◌, ◌≤◌, Bool, true, false, List, [], ◌∷◌, ◌++◌, length, get_or, take, drop, sym, refl, ap, ◌∙◌, subst, add-one, arith}
+use Rattle.std.proofs.Common.{◌≡◌, ℕ, zero, suc, ◌+◌, ◌<◌, ◌≤◌, true, false, List, [], ◌∷◌, length, get_or, take, drop, sym, refl, ◌∙◌, subst, add-one, arith}
 use Rattle.semantics.specs.Values.{Expr, name, input, constant, count, each, both, choose, fold, scan, shape_to, turn, part, join, rows}
 use Rattle.program.specs.declared.step.Step.{Step}
 use Rattle.semantics.specs.declared.operation.Unary.{Unary}
 use Rattle.semantics.specs.declared.operation.Binary.{Binary}
 use Rattle.program.specs.declared.step.Step.TheVariants.{End, Let, Put, Show, Again, Name, Input, Constant, Count, Each, Both, Choose, Fold, Scan, Shape, Turn, Part, Join, Rows, Item, Slice}
-use Rattle.program.specs.Spelling.{items, slices, spell}
+use Rattle.program.specs.Spelling.{spell}
 use Rattle.program.specs.Words.{steps_in, At}
 use Rattle.program.specs.Standing.{steps_from, Opens, OpensLine}
 use Rattle.kernels.specs.Trees.{Fusable}

@@ -1,8 +1,8 @@
 -- The numbers of inputs are patterns: an input's bytes are bytes, and a NaN of any bits is read as the one.
-use Rattle.std.proofs.Common.{◌≡◌, ℕ, zero, suc, ◌+◌, ◌*◌, ◌^◌, ◌<◌, ◌≤◌, List, [], ◌∷◌, map, length, get_or, sym, refl, ap, ◌∙◌, subst, arith}
+use Rattle.std.proofs.Common.{◌≡◌, ℕ, zero, suc, ◌+◌, ◌^◌, ◌<◌, List, [], ◌∷◌, map, get_or, subst, arith}
 use Rattle.semantics.specs.Shapes.{In}
 use Rattle.semantics.specs.Arrays.{Array}
-use Rattle.semantics.specs.Values.{Cell, none, some, given}
+use Rattle.semantics.specs.Values.{some, given}
 use Rattle.numbers.specs.Patterns.{Pattern}
 use Rattle.numbers.proofs.Written.{canonical_pattern}
 use Rattle.encoding.specs.Words.{word8}

@@ -1,5 +1,5 @@
 -- Plans, operation by operation.
-use Rattle.std.proofs.Common.{◌≡◌, ℕ, zero, suc, ◌+◌, ◌-◌, ◌^◌, ◌<◌, ◌≤◌, min, Bool, true, false, leb, List, [], ◌∷◌, map, length, get_or, IsErrAnd, IfOk, Ok, Err, Result, sym, refl, ap, ◌∙◌, subst, arith}
+use Rattle.std.proofs.Common.{◌≡◌, ℕ, zero, suc, ◌+◌, ◌-◌, ◌^◌, ◌<◌, ◌≤◌, min, Bool, true, false, List, [], ◌∷◌, map, length, get_or, IsErrAnd, IfOk, Ok, Err, Result, sym, refl, ap, ◌∙◌, subst, arith}
 use Rattle.std.proofs.lemmas.Result.{err_from_is_err_and, IfOk-weaker}
 use Rattle.std.proofs.lemmas.Bool.{le-leb, lt-leb}
 use Rattle.semantics.specs.declared.operation.Unary.{Unary}
@@ -7,7 +7,7 @@ use Rattle.semantics.specs.declared.operation.Binary.{Binary}
 use Rattle.semantics.specs.Shapes.{pick, size}
 use Rattle.semantics.specs.Broadcast.{fit, wide}
 use Rattle.semantics.specs.Arrays.{Array, each_array, both_array, constant_array, count_array}
-use Rattle.semantics.specs.Values.{Expr, name, input, constant, count, each, both, choose, fold, scan, shape_to, turn, part, join, rows, Cell, none, some, Value, fault, val, then, made as counted, held, given, on_each, on_both, value}
+use Rattle.semantics.specs.Values.{Expr, name, input, constant, count, each, both, Cell, none, Value, fault, val, then, made as counted, held, given, on_each, on_both, value}
 use Rattle.numbers.specs.Operations.{binary64}
 use Rattle.encoding.specs.Format.{inputs_of, offsets, array_at}
 use Rattle.encoding.specs.declared.header.Header.{Header}
@@ -17,16 +17,15 @@ use Rattle.encoding.specs.declared.shape.Shape.{Shape}
 use Rattle.program.specs.declared.step.Step.{Step}
 use Rattle.program.specs.declared.step.Step.TheVariants.{Name, Input, Constant, Count, Each, Both}
 use Rattle.program.specs.Spelling.{spell}
-use Rattle.program.specs.Words.{steps_in, At}
+use Rattle.program.specs.Words.{At}
 use Rattle.program.specs.Standing.{steps_from, Stands, Skips, View, is_name, is_input, is_constant, is_count, is_each, is_both}
-use Rattle.program.proofs.Nodes.{expr_view, stands_there, expr_further, each_operand}
+use Rattle.program.proofs.Nodes.{expr_view, expr_further}
 use Rattle.kernels.specs.declared.slot.Slot.{Slot}
 use Rattle.kernels.specs.declared.slot.Slot.TheVariants.{Empty, Held}
 use Rattle.kernels.specs.Filling.{Tabled, SlotHolds, empty, held as holding}
 use Rattle.kernels.proofs.Feeding.{slot_cell, input_there}
 use Rattle.views.specs.declared.view.View.{View as Look}
-use Rattle.runtime.specs.declared.fault.Fault.{Fault}
-use Rattle.runtime.specs.declared.fault.Fault.TheVariants.{Shapes, Places, Nothing}
+use Rattle.runtime.specs.declared.fault.Fault.TheVariants.{Places, Nothing}
 use Rattle.runtime.specs.declared.fault.Stop.{Stop}
 use Rattle.runtime.specs.declared.plan.Planned.{Planned}
 use Rattle.runtime.specs.Faults.{fault_number}

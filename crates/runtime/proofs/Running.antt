@@ -1,9 +1,9 @@
 -- Lines one after the other.
-use Rattle.std.proofs.Common.{◌≡◌, ℕ, zero, suc, ◌+◌, ◌-◌, ◌<◌, ◌≤◌, eqb, List, [], ◌∷◌, ◌++◌, length, get_or, Ok, Err, Result, sym, refl, ap, ◌∙◌, subst, zero-add, arith, length-append}
+use Rattle.std.proofs.Common.{◌≡◌, ℕ, zero, suc, ◌+◌, ◌<◌, ◌≤◌, eqb, List, [], ◌∷◌, ◌++◌, length, get_or, Ok, Err, Result, sym, refl, ap, ◌∙◌, subst, zero-add, arith, length-append}
 use lib.Ieee.{Float}
 use Rattle.semantics.specs.Shapes.{pick}
 use Rattle.semantics.specs.Arrays.{Array}
-use Rattle.semantics.specs.Values.{Expr, Cell, none, some}
+use Rattle.semantics.specs.Values.{Expr, none, some}
 use Rattle.semantics.specs.Programs.{Program, end, be, show, State, Shown as Listed, becomes, is_shown, value_in, nothing, begin, run, shows, ends}
 use Rattle.semantics.specs.RunLaws.{Begins}
 use Rattle.semantics.proofs.Runs.{ended_stays, shown_stays}
@@ -17,23 +17,21 @@ use Rattle.program.specs.declared.step.Step.{Step}
 use Rattle.program.specs.declared.step.Step.TheVariants.{Let, Show}
 use Rattle.program.specs.Spelling.{spell, spell_program}
 use Rattle.program.specs.Words.{steps_in, At}
-use Rattle.program.specs.Standing.{steps_from, Stands, Skips, Closed, nothing as no_steps, Runs, LinesView, is_let, is_show}
+use Rattle.program.specs.Standing.{steps_from, Skips, nothing as no_steps, Runs, LinesView, is_let, is_show}
 use Rattle.program.proofs.Nodes.{lines_view, lines_none, from_start}
 use Rattle.kernels.specs.declared.slot.Slot.{Slot}
-use Rattle.kernels.specs.Trees.{Plain}
 use Rattle.kernels.specs.Filling.{Tabled}
 use Rattle.memory.specs.declared.memory.Memory.{Memory}
 use Rattle.runtime.specs.declared.fault.Fault.{Fault}
 use Rattle.runtime.specs.declared.fault.Fault.TheVariants.{Shapes, Places, Nothing, Room}
 use Rattle.runtime.specs.declared.fault.Stop.{Stop}
 use Rattle.runtime.specs.declared.run.End.TheVariants.{Done, Stopped}
-use Rattle.runtime.specs.declared.run.Ran.{Ran}
 use Rattle.runtime.specs.declared.statements.Shown.{Shown}
 use Rattle.runtime.specs.Faults.{fault_number}
 use Rattle.runtime.specs.Planning.{sizes}
 use Rattle.runtime.specs.States.{Stood, Standing}
 use Rattle.runtime.specs.Statements.{Keeps, LetGoes, let_on, let_not, ShowGoes, show_on, show_not, show_full}
-use Rattle.runtime.specs.Running.{end_number, bytes_of, ProgramStands, ShowsAs, RunsAs}
+use Rattle.runtime.specs.Running.{bytes_of, ProgramStands, ShowsAs, RunsAs}
 use Rattle.runtime.proofs.Fitting.{shown_none, shown_push, shows_whole, shows_cut}
 use Rattle.runtime.proofs.Patterns.{Bytes, inputs_plain}
 

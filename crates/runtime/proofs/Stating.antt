@@ -1,17 +1,16 @@
 -- Statements against the meaning.
-use Rattle.std.proofs.Common.{◌≡◌, ℕ, ◌+◌, ◌-◌, ◌<◌, ◌≤◌, Bool, true, false, ltb, List, [], ◌∷◌, ◌++◌, length, get_or, set, IsErrAnd, Some, None, Ok, Err, Option, Result, sym, refl, ap, ◌∙◌, subst, ⊎_elim, arith, length-set, get_or-set_other, get_or-set_same}
+use Rattle.std.proofs.Common.{◌≡◌, ℕ, ◌-◌, ◌<◌, ◌≤◌, List, length, get_or, set, IsErrAnd, Some, None, Ok, Err, Option, Result, sym, refl, ap, ◌∙◌, subst, ⊎_elim, length-set, get_or-set_other, get_or-set_same}
 use Rattle.std.proofs.lemmas.List.{set_past}
 use Rattle.std.proofs.lemmas.Bool.{cases_eq, cases_lt, lt-ltb, le-ltb}
 use Rattle.std.proofs.lemmas.Result.{err_from_is_err_and}
-use Rattle.semantics.specs.Shapes.{pick, size, In, unflat, up_to}
+use Rattle.semantics.specs.Shapes.{pick, size, In, unflat}
 use Rattle.semantics.specs.Arrays.{Array}
 use Rattle.semantics.specs.Values.{Expr, Cell, none, some, Value, fault, val, value}
-use Rattle.semantics.specs.Programs.{State, in_names, listed, numbers_at, value_in, stopped, is_shown, becomes, with_name}
+use Rattle.semantics.specs.Programs.{State, listed, value_in, stopped, is_shown, becomes, with_name}
 use Rattle.numbers.specs.Operations.{binary64}
 use Rattle.numbers.specs.Patterns.{Pattern}
 use Rattle.encoding.specs.Format.{inputs_of}
 use Rattle.encoding.specs.ShapeOf.{shape_of}
-use Rattle.encoding.specs.Words.{written}
 use Rattle.encoding.specs.Writing.{array_bytes, Writes}
 use Rattle.program.specs.declared.step.Step.{Step}
 use Rattle.program.specs.Spelling.{spell}
@@ -19,9 +18,8 @@ use Rattle.program.specs.Standing.{steps_from, Stands}
 use Rattle.kernels.specs.declared.slot.Slot.{Slot}
 use Rattle.kernels.specs.declared.slot.Slot.TheVariants.{Held}
 use Rattle.kernels.specs.Trees.{tree, Plain}
-use Rattle.kernels.specs.Filling.{Tabled, Ready, tree_array}
+use Rattle.kernels.specs.Filling.{Tabled, Ready}
 use Rattle.views.specs.declared.view.View.{View}
-use Rattle.views.specs.Views.{Holds}
 use Rattle.memory.specs.declared.memory.Memory.{Memory}
 use Rattle.memory.specs.Spans.{slot_size}
 use Rattle.memory.specs.Tables.{Counted, Bound}

@@ -1,10 +1,10 @@
 -- An expression that was planned is a tree whose leaves are there: its loop has the numbers of the value that it comes to.
-use Rattle.std.proofs.Common.{◌≡◌, ℕ, zero, suc, ◌+◌, ◌<◌, ◌≤◌, List, [], ◌∷◌, length, get_or, drop, sym, refl, ap, ◌∙◌, subst, arith}
+use Rattle.std.proofs.Common.{◌≡◌, ℕ, zero, suc, ◌+◌, ◌<◌, List, drop, sym, ap, ◌∙◌, subst, arith}
 use Rattle.semantics.specs.Shapes.{size, In, unflat, up_to}
 use Rattle.semantics.specs.Arrays.{Array}
-use Rattle.semantics.specs.Values.{Expr, name, input, constant, count, each, both, choose, fold, scan, shape_to, turn, part, join, rows, Cell, none, some, val, given, value}
+use Rattle.semantics.specs.Values.{Expr, name, input, constant, count, each, both, choose, fold, scan, shape_to, turn, part, join, rows, Cell, val, value}
 use Rattle.semantics.specs.Programs.{numbers_at, listed}
-use Rattle.semantics.proofs.Places.{Inside, inside_in, in_inside, inside_unflat}
+use Rattle.semantics.proofs.Places.{inside_in, in_inside, inside_unflat}
 use Rattle.semantics.proofs.Listings.{length_numbers_at, get_d_numbers_at, numbers_at_is}
 use Rattle.numbers.specs.Operations.{binary64}
 use Rattle.numbers.specs.Patterns.{Pattern}
@@ -14,8 +14,8 @@ use Rattle.program.specs.Spelling.{spell}
 use Rattle.program.specs.Words.{steps_in}
 use Rattle.program.specs.Standing.{steps_from}
 use Rattle.kernels.specs.declared.slot.Slot.{Slot}
-use Rattle.kernels.specs.Trees.{Fusable, tree, Leaves, Plain, PlainConstants, Fused}
-use Rattle.kernels.specs.Filling.{Tabled, Ready, tree_array}
+use Rattle.kernels.specs.Trees.{Fusable, tree, Leaves, PlainConstants, Fused}
+use Rattle.kernels.specs.Filling.{Ready, tree_array}
 use Rattle.kernels.proofs.Fusing.{trees_fuse}
 use Rattle.kernels.proofs.Narrowing.{spreads_refl}
 use Rattle.kernels.proofs.Patterned.{tree_pattern}

@@ -1,5 +1,5 @@
 -- What running a text answers: why it was refused, with nothing lent changed; or what the meaning says of the program that the text is.
-use Rattle.std.specs.Prelude.{◌≡◌, ℕ, ◌+◌, ◌*◌, ◌^◌, ◌<◌, ◌≤◌, ◌⊎◌, List, [], length, drop, slice_index}
+use Rattle.std.specs.Prelude.{◌≡◌, ℕ, ◌+◌, ◌*◌, ◌^◌, ◌<◌, ◌≤◌, List, [], length, drop, slice_index}
 use Rattle.semantics.specs.Programs.{Program, shows, ends}
 use Rattle.numbers.specs.Operations.{binary64}
 use Rattle.encoding.specs.Format.{inputs_of, offsets, stop}

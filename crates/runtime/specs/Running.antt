@@ -1,5 +1,5 @@
 -- What a run shows and how it ends, against the meaning.
-use Rattle.std.specs.Prelude.{◌≡◌, ℕ, ◌-◌, Bool, true, false, List, [], ◌∷◌, ◌++◌, length, nat_le, nat_lt}
+use Rattle.std.specs.Prelude.{◌≡◌, ℕ, ◌-◌, List, [], ◌∷◌, length, nat_le, nat_lt}
 use Rattle.semantics.specs.Shapes.{pick}
 use Rattle.semantics.specs.Programs.{Program, Shown as Listed, shows, ends}
 use Rattle.numbers.specs.Operations.{binary64}

@@ -1,5 +1,5 @@
 -- What showing an array leaves in the room for it.
-use Rattle.std.specs.Prelude.{◌≡◌, ℕ, List, Option}
+use Rattle.std.specs.Prelude.{ℕ, List, Option}
 use Rattle.semantics.specs.Shapes.{size, up_to}
 use Rattle.semantics.specs.Programs.{numbers_at}
 use Rattle.encoding.specs.Format.{inputs_of}

@@ -1,4 +1,6 @@
 // The run of a program on the number area.
+#![tactic(auto)]
+
 pub mod answer;
 pub mod built;
 pub mod fault;

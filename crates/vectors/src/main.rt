@@ -1,6 +1,8 @@
 // Holds the operations on numbers to cases whose outcomes another compiler's arithmetic gave:
 // `tools/vectors` writes them. Each case that comes out otherwise is printed, then how many there
 // were, so that a case left out shows as well.
+#![tactic(auto)]
+
 mod case;
 mod run;
 

@@ -1,4 +1,6 @@
 // The worked examples of the language, run: what each shows, and how it ends.
+#![tactic(auto)]
+
 use anyhow::anyhow;
 use reference::fault::fault_number;
 use reference::interpret::End;

@@ -1,4 +1,4 @@
-use Rattle.std.proofs.Common.{◌≡◌, ◌+◌, refl, ap, arith}
+use Rattle.std.proofs.Common.{refl, ap, arith}
 use Rattle.semantics.specs.Shapes.{size}
 use Rattle.semantics.specs.Arrays.{both_array}
 use Rattle.semantics.specs.Values.{on_both}

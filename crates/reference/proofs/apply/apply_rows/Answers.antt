@@ -1,4 +1,4 @@
-use Rattle.std.proofs.Common.{◌≡◌, ◌≤◌, ◌++◌, length, drop, sym, refl, ap, arith}
+use Rattle.std.proofs.Common.{◌≤◌, ◌++◌, length, drop, sym, refl, ap, arith}
 use Rattle.std.proofs.lemmas.Bool.{ltb-true, lt-leb, le-leb}
 use Rattle.semantics.specs.Shapes.{size}
 use Rattle.semantics.specs.Arrays.{rows_array}

@@ -1,4 +1,3 @@
-use Rattle.std.proofs.Common.{◌≡◌, max, length}
 use Rattle.encoding.specs.ShapeOf.{shape_of}
 use Rattle.reference.proofs.Broadcasting.{Widening}
 use Rattle.reference.proofs.broadcast.broadcast.Given as goal

@@ -1,9 +1,9 @@
-use Rattle.std.proofs.Common.{◌≡◌, ◌+◌, ◌-◌, ◌<◌, ◌≤◌, eqb, length, get_or, take, sym, refl, ap, ◌∙◌, arith}
+use Rattle.std.proofs.Common.{◌≡◌, ◌+◌, ◌-◌, eqb, length, get_or, take, sym, refl, ap, ◌∙◌, arith}
 use Rattle.std.proofs.lemmas.List.{length-take-le, get_or-take}
 use Rattle.semantics.specs.Shapes.{pick}
 use Rattle.semantics.specs.Broadcast.{narrow}
 use Rattle.reference.proofs.Broadcasting.{length_narrow, get_d_narrow}
-use Rattle.reference.proofs.Filling.{Filled, filled_none, filled_more, filled_all}
+use Rattle.reference.proofs.Filling.{filled_none, filled_more, filled_all}
 use Rattle.reference.proofs.broadcast.narrow_place.Goals as goal
 
 pub loop-k-init : goal.loop-k-init

@@ -1,4 +1,4 @@
-use Rattle.std.proofs.Common.{◌≡◌, ◌+◌, true, false, length, get_or, sym, refl, ap, ◌∙◌, arith}
+use Rattle.std.proofs.Common.{◌≡◌, ◌+◌, true, false, length, get_or, sym, ap, ◌∙◌, arith}
 use Rattle.semantics.specs.Shapes.{same, without}
 use Rattle.encoding.specs.ShapeOf.{shape_of}
 use Rattle.reference.specs.ArrayOf.{array_of}

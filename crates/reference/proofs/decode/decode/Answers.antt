@@ -1,8 +1,7 @@
-use Rattle.std.proofs.Common.{◌≡◌, ◌+◌, ◌*◌, IfOk, subst}
+use Rattle.std.proofs.Common.{◌+◌, ◌*◌, IfOk, subst}
 use Rattle.semantics.specs.Shapes.{flat}
 use Rattle.semantics.specs.Arrays.{Alike}
 use Rattle.encoding.specs.Format.{number_at, shape_at, array_at}
-use Rattle.encoding.specs.ShapeOf.{shape_of}
 use Rattle.reference.specs.ArrayOf.{array_of, array_with}
 use Rattle.reference.proofs.decode.decode.Goals as goal
 

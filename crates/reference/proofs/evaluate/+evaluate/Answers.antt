@@ -1,4 +1,4 @@
-use Rattle.std.proofs.Common.{◌≤◌, Ok, Err, sym, arith}
+use Rattle.std.proofs.Common.{sym, arith}
 use Rattle.program.proofs.Nodes.{stands_there}
 use Rattle.reference.proofs.Evaluating.{evaluated, exited, zero_leaf, zero_skips, zero_right, one_stands, one_falls, one_stop, one_skips, one_right, two_stands, two_falls, two_stop, two_stands_second, two_falls_second, two_stop_second, two_skips, two_right, three_stands, three_falls, three_stop, three_stands_second, three_falls_second, three_stop_second, three_stands_third, three_falls_third, three_stop_third, three_skips, three_right}
 use Rattle.reference.proofs.evaluate.+evaluate.Goals as goal

@@ -1,5 +1,3 @@
-use Rattle.std.proofs.Common.{◌≡◌, sym, refl, ap, ◌∙◌, subst, arith}
-use Rattle.semantics.specs.Shapes.{size, In}
 use Rattle.semantics.specs.Arrays.{rows_array}
 use Rattle.reference.proofs.Tables.{made_shaped}
 use Rattle.reference.proofs.gather.rows.Goals as goal

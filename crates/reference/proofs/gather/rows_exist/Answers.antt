@@ -1,6 +1,5 @@
-use Rattle.std.proofs.Common.{◌≡◌, ◌<◌, ◌≤◌, get_or, vec_items, vec_len, sym, refl, ap, ◌∙◌, arith}
+use Rattle.std.proofs.Common.{◌<◌, get_or, vec_items, vec_len, sym, refl, ap, ◌∙◌, arith}
 use Rattle.std.proofs.lemmas.List.{get_or_read_under}
-use Rattle.semantics.specs.Shapes.{size}
 use Rattle.numbers.specs.Operations.{binary64}
 use Rattle.encoding.specs.ShapeOf.{shape_of}
 use Rattle.reference.proofs.Gathering.{below_more, below_none, below_end, below_all}

@@ -1,4 +1,4 @@
-use Rattle.std.proofs.Common.{refl, mul-one, arith}
+use Rattle.std.proofs.Common.{mul-one, arith}
 use Rattle.semantics.specs.Shapes.{size}
 use Rattle.semantics.specs.Arrays.{count_array}
 use Rattle.numbers.specs.Operations.{binary64}

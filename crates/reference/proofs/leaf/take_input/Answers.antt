@@ -1,4 +1,4 @@
-use Rattle.std.proofs.Common.{get_or, ap, ◌∙◌, arith}
+use Rattle.std.proofs.Common.{get_or, ap, arith}
 use Rattle.semantics.specs.Values.{held}
 use Rattle.encoding.specs.Format.{array_at, offsets}
 use Rattle.reference.specs.Right.{right_fault}

@@ -1,4 +1,4 @@
-use Rattle.std.proofs.Common.{◌≡◌, ◌<◌, ◌≤◌, length, get_or, vec_items, sym, refl, ap, ◌∙◌, subst, arith}
+use Rattle.std.proofs.Common.{◌≡◌, ◌<◌, ◌≤◌, length, get_or, vec_items, ap, ◌∙◌, arith}
 use Rattle.semantics.specs.Values.{none, held}
 use Rattle.reference.specs.CellsOf.{cell_of, cells_of}
 use Rattle.reference.specs.Right.{right_fault}

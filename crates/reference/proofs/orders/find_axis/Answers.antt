@@ -1,4 +1,4 @@
-use Rattle.std.proofs.Common.{◌≡◌, sym, refl, ap, ◌∙◌, arith}
+use Rattle.std.proofs.Common.{arith}
 use Rattle.reference.proofs.Ordering.{where_here, where_later, where_end}
 use Rattle.reference.proofs.orders.find_axis.Goals as goal
 

@@ -1,4 +1,4 @@
-use Rattle.std.proofs.Common.{◌≡◌, sym, refl, ap, ◌∙◌, arith}
+use Rattle.std.proofs.Common.{sym, ◌∙◌}
 use Rattle.reference.proofs.Ordering.{among_here, among_later, among_end}
 use Rattle.reference.proofs.orders.is_among.Goals as goal
 

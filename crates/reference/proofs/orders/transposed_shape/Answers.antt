@@ -1,6 +1,5 @@
-use Rattle.std.proofs.Common.{◌≡◌, ◌<◌, ◌≤◌, length, get_or, take, sym, refl, ap, ◌∙◌, arith}
+use Rattle.std.proofs.Common.{◌≡◌, ◌<◌, length, get_or, take, sym, refl, ap, ◌∙◌, arith}
 use Rattle.std.proofs.lemmas.List.{length-take-le, get_or-take}
-use Rattle.semantics.specs.Orders.{turned}
 use Rattle.semantics.proofs.Orders.{ordered, length_turned, get_d_turned}
 use Rattle.encoding.specs.ShapeOf.{shape_of}
 use Rattle.reference.proofs.Filling.{filled_none, filled_more, filled_all}

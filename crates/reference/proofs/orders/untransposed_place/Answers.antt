@@ -1,6 +1,6 @@
-use Rattle.std.proofs.Common.{◌≡◌, ◌<◌, ◌≤◌, length, get_or, take, sym, refl, ap, ◌∙◌, arith}
+use Rattle.std.proofs.Common.{◌≡◌, ◌<◌, length, get_or, take, sym, refl, ap, ◌∙◌, arith}
 use Rattle.std.proofs.lemmas.List.{length-take-le, get_or-take}
-use Rattle.semantics.specs.Orders.{turned_back, where_in}
+use Rattle.semantics.specs.Orders.{where_in}
 use Rattle.semantics.proofs.Orders.{ordered, length_turned_back, get_d_turned_back}
 use Rattle.reference.specs.IndicesOf.{indices_of}
 use Rattle.reference.proofs.Filling.{filled_none, filled_more, filled_all}

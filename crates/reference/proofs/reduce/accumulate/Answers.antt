@@ -1,4 +1,4 @@
-use Rattle.std.proofs.Common.{◌≡◌, ℕ, ◌+◌, ◌<◌, List, set, sym, refl, ap, ◌∙◌, subst, arith}
+use Rattle.std.proofs.Common.{◌≡◌, ℕ, set, sym, ap, ◌∙◌, arith}
 use Rattle.semantics.specs.Arrays.{folded}
 use Rattle.numbers.specs.Operations.{binary64}
 use Rattle.reference.specs.ArrayOf.{array_of}

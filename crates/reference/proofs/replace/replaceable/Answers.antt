@@ -1,4 +1,4 @@
-use Rattle.std.proofs.Common.{◌≡◌, sym, ◌∙◌}
+use Rattle.std.proofs.Common.{sym, ◌∙◌}
 use Rattle.encoding.specs.ShapeOf.{shape_of}
 use Rattle.reference.specs.ArrayOf.{array_of}
 use Rattle.reference.specs.PartsOf.{parts_of}

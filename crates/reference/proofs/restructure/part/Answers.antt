@@ -1,5 +1,4 @@
-use Rattle.std.proofs.Common.{◌≡◌, sym, refl, ap, ◌∙◌, subst, arith}
-use Rattle.semantics.specs.Shapes.{size, In}
+use Rattle.std.proofs.Common.{arith}
 use Rattle.semantics.specs.Arrays.{part_array}
 use Rattle.encoding.specs.ShapeOf.{shape_of}
 use Rattle.reference.proofs.Measures.{shape_few}

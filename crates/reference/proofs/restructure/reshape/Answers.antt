@@ -1,5 +1,5 @@
-use Rattle.std.proofs.Common.{◌≡◌, ◌<◌, get_or, vec_items, sym, refl, ap, ◌∙◌, arith}
-use Rattle.semantics.specs.Shapes.{size, In, flat, unflat}
+use Rattle.std.proofs.Common.{◌<◌, get_or, vec_items, sym, refl, ap, ◌∙◌, arith}
+use Rattle.semantics.specs.Shapes.{size, flat}
 use Rattle.semantics.specs.Arrays.{Alike, shape_array}
 use Rattle.semantics.proofs.Places.{inside_in, flat_below, flat_unflat}
 use Rattle.encoding.specs.ShapeOf.{shape_of}

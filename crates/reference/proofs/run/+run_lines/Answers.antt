@@ -1,4 +1,4 @@
-use Rattle.std.proofs.Common.{◌<◌, ◌≤◌, Ok, Err, arith}
+use Rattle.std.proofs.Common.{Err, arith}
 use Rattle.program.proofs.Nodes.{again_body}
 use Rattle.program.proofs.Closings.{closes_at, again_closed}
 use Rattle.reference.proofs.Lining.{lines_start, lines_closed, lines_over, lines_more, lines_stop, rounds_none, rounds_more, rounds_stop, rounds_all, lines_then, lines_then_run, lines_exit, plain_other, line_there}

@@ -1,5 +1,4 @@
-use Rattle.std.proofs.Common.{◌≡◌, subst}
-use Rattle.program.proofs.Nodes.{let_operand, show_operand, put_slices, runs_opens}
+use Rattle.program.proofs.Nodes.{let_operand, show_operand, put_slices}
 use Rattle.reference.proofs.Lining.{let_line, show_line, put_line, no_other_line}
 use Rattle.reference.proofs.run.run_line.Goals as goal
 

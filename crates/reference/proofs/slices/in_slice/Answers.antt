@@ -1,4 +1,4 @@
-use Rattle.std.proofs.Common.{◌≡◌, ◌/◌, ◌%◌, ◌&&◌, eqb, ltb, sym, refl, ap, ◌∙◌}
+use Rattle.std.proofs.Common.{◌/◌, ◌%◌, ◌&&◌, eqb, ltb, ap, ◌∙◌}
 use Rattle.semantics.specs.Parts.{apart, in_part}
 use Rattle.reference.specs.PartsOf.{part_of}
 use Rattle.reference.proofs.slices.in_slice.Goals as goal

@@ -1,7 +1,7 @@
-use Rattle.std.proofs.Common.{◌≡◌, ℕ, ◌<◌, ◌≤◌, true, false, List, length, get_or, take, sym, refl, ap, ◌∙◌, subst, arith}
+use Rattle.std.proofs.Common.{◌≡◌, ◌≤◌, true, false, List, length, get_or, take, sym, refl, ap, ◌∙◌, arith}
 use Rattle.std.proofs.lemmas.List.{length-take-le, get_or-take}
 use Rattle.semantics.specs.Shapes.{In}
-use Rattle.semantics.specs.Parts.{place_of, part_fits, parts_fit, part_shape, places_of}
+use Rattle.semantics.specs.Parts.{place_of, part_fits, parts_fit, part_shape}
 use Rattle.semantics.proofs.Places.{inside_in, length_inside, get_d_inside}
 use Rattle.encoding.specs.declared.shape.Shape.{Shape}
 use Rattle.encoding.specs.ShapeOf.{shape_of}

@@ -1,14 +1,12 @@
-use Rattle.std.proofs.Common.{◌≡◌, ℕ, List, get_or, Ok, Err, sym, ap, ◌∙◌, subst, arith}
+use Rattle.std.proofs.Common.{get_or, Ok, Err, ap, ◌∙◌, subst, arith}
 use Rattle.std.proofs.lemmas.Result.{IfOk-from_err}
-use Rattle.semantics.specs.Parts.{Part}
 use Rattle.semantics.specs.Values.{none}
-use Rattle.semantics.specs.Programs.{State, value_in, is_put}
+use Rattle.semantics.specs.Programs.{value_in, is_put}
 use Rattle.semantics.proofs.Runs.{since_is_put}
 use Rattle.numbers.specs.Operations.{binary64}
 use Rattle.encoding.specs.Format.{inputs_of}
 use Rattle.reference.specs.CellsOf.{sizes}
 use Rattle.reference.specs.PartsOf.{parts_of}
-use Rattle.reference.specs.Right.{Right}
 use Rattle.reference.specs.Running.{Replaces, replaces_wanting}
 use Rattle.reference.proofs.Stating.{put_stop, put_done, small_set, went_exit}
 use Rattle.reference.proofs.statements.run_put.Goals as goal

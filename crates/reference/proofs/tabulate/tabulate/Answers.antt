@@ -1,9 +1,8 @@
-use Rattle.std.proofs.Common.{◌≡◌, ℕ, ◌+◌, ◌^◌, ◌<◌, ◌≤◌, get_or, vec_items, vec_len, sym, refl, ap, ◌∙◌, subst, arith, below_more}
-use Rattle.semantics.specs.Shapes.{size, In, flat, unflat}
+use Rattle.std.proofs.Common.{◌<◌, get_or, vec_items, sym, refl, ap, ◌∙◌, subst, arith, below_more}
+use Rattle.semantics.specs.Shapes.{size, flat}
 use Rattle.semantics.specs.Arrays.{Alike}
 use Rattle.semantics.proofs.Places.{inside_in, in_inside, inside_unflat, unflat_flat, flat_below}
 use Rattle.encoding.specs.ShapeOf.{shape_of}
-use Rattle.reference.specs.IndicesOf.{indices_of}
 use Rattle.reference.proofs.tabulate.tabulate.Goals as goal
 
 pub loop-n-init : goal.loop-n-init

@@ -1,4 +1,4 @@
-use Rattle.std.proofs.Common.{◌≡◌, ℕ, ◌-◌, ◌*◌, ◌≤◌, List, [], length, take, Ok, sym, refl, ap, ◌∙◌, subst, arith, rules}
+use Rattle.std.proofs.Common.{◌≡◌, ℕ, ◌-◌, ◌*◌, List, [], take, Ok, ap, ◌∙◌, arith}
 use Rattle.program.specs.Spelling.{spell_program}
 use Rattle.program.specs.Words.{steps_in}
 use Rattle.grammar.specs.Automaton.{answer_to}

@@ -1,4 +1,4 @@
-use Rattle.std.proofs.Common.{◌≡◌, ℕ, ◌+◌, ◌*◌, ◌<◌, ◌≤◌, List, length, sym, refl, ap, ◌∙◌, arith}
+use Rattle.std.proofs.Common.{◌≡◌, ℕ, ◌+◌, ◌*◌, ◌≤◌, List, length, refl, ap, ◌∙◌, arith}
 use Rattle.std.proofs.lemmas.List.{length-take-le}
 use Rattle.semantics.specs.Shapes.{size, up_to}
 use Rattle.semantics.specs.Programs.{numbers_at}
@@ -8,7 +8,7 @@ use Rattle.encoding.specs.Format.{inputs_of}
 use Rattle.encoding.specs.Words.{written}
 use Rattle.encoding.specs.Writing.{head_bytes, number_bytes, array_bytes}
 use Rattle.encoding.proofs.Writings.{written_written, length_written, length_head_bytes, length_array_bytes}
-use Rattle.kernels.specs.Filling.{Ready, tree_array}
+use Rattle.kernels.specs.Filling.{tree_array}
 use Rattle.semantics.proofs.Listings.{length_numbers_at}
 use Rattle.runtime.proofs.output.show_tree.Goals as goal
 

@@ -1,6 +1,5 @@
-use Rattle.std.proofs.Common.{◌≡◌, ◌+◌, ◌-◌, ◌<◌, ◌≤◌, length, sym, refl, ap, ◌∙◌, arith}
-use Rattle.program.specs.Words.{steps_in}
-use Rattle.program.proofs.Nodes.{stands_there, stands_opens, expr_further, each_operand}
+use Rattle.std.proofs.Common.{◌+◌, refl, arith}
+use Rattle.program.proofs.Nodes.{stands_there, stands_opens, each_operand}
 use Rattle.runtime.proofs.Building.{step_built, built_opens}
 use Rattle.runtime.proofs.Planning.{name_at, input_at, constant_at, count_at, each_stop_at, each_at, both_stands, both_stands_second, both_stop_at, both_stop_second_at, both_unlike_at, both_at, plan_exit, skips_further}
 use Rattle.runtime.proofs.plan.+plan.Goals as goal

@@ -1,6 +1,6 @@
-use Rattle.std.proofs.Common.{◌≡◌, ◌<◌, ◌≤◌, length, get_or, sym, refl, ap, ◌∙◌, arith}
+use Rattle.std.proofs.Common.{◌<◌, length, refl, ◌∙◌, arith}
 use Rattle.std.proofs.lemmas.List.{get_or_past}
-use Rattle.kernels.specs.declared.slot.Slot.TheVariants.{Empty, Held}
+use Rattle.kernels.specs.declared.slot.Slot.TheVariants.{Empty}
 use Rattle.kernels.proofs.Feeding.{get_d_any}
 use Rattle.runtime.proofs.Planning.{name_nothing, name_counts, slot_empty}
 use Rattle.runtime.proofs.plan.plan_name.Goals as goal

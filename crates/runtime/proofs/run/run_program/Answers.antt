@@ -1,6 +1,5 @@
-use Rattle.std.proofs.Common.{◌≡◌, ◌+◌, ◌<◌, ◌≤◌, length, get_or, sym, refl, ap, ◌∙◌, arith}
-use Rattle.program.specs.Words.{steps_in}
-use Rattle.program.proofs.Nodes.{let_operand, let_lines, show_operand, show_lines, runs_opens, stands_there}
+use Rattle.std.proofs.Common.{◌+◌, refl, arith}
+use Rattle.program.proofs.Nodes.{let_operand, let_lines, show_operand, show_lines, runs_opens}
 use Rattle.runtime.proofs.Building.{step_built, built_lines}
 use Rattle.runtime.proofs.Planning.{skips_further}
 use Rattle.runtime.proofs.Running.{lines_start, lines_standing, lines_over, let_more, let_stops, show_more, show_stops}

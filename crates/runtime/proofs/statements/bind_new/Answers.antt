@@ -1,4 +1,4 @@
-use Rattle.std.proofs.Common.{◌≡◌, ◌+◌, ◌≤◌, length, sym, ap, ◌∙◌, arith}
+use Rattle.std.proofs.Common.{◌+◌, ◌≤◌, length, ap, arith}
 use Rattle.semantics.specs.Shapes.{size}
 use Rattle.encoding.specs.ShapeOf.{shape_of}
 use Rattle.memory.specs.Spans.{slot_size}

@@ -1,4 +1,4 @@
-use Rattle.std.proofs.Common.{◌≡◌, ◌<◌, length, get_or, ap, ◌∙◌, arith}
+use Rattle.std.proofs.Common.{◌<◌, length, get_or, ap, ◌∙◌, arith}
 use Rattle.semantics.specs.Shapes.{size}
 use Rattle.encoding.specs.Format.{offsets}
 use Rattle.encoding.proofs.Formats.{next_at_is}

@@ -1,8 +1,8 @@
-use Rattle.std.proofs.Common.{◌≡◌, ℕ, ◌-◌, ◌*◌, ◌<◌, ◌≤◌, true, false, length, take, drop, sym, refl, ap, ◌∙◌, subst, arith}
+use Rattle.std.proofs.Common.{◌≡◌, ℕ, ◌-◌, ◌*◌, ◌≤◌, true, false, length, take, drop, refl, ap, ◌∙◌, subst, arith}
 use Rattle.std.proofs.lemmas.List.{length-take-le, drop_at}
 use Rattle.runtime.specs.Running.{RunsAs}
 use Rattle.runtime.specs.Answering.{for_text, for_steps_not_built, for_size, for_input, for_steps, for_work}
-use Rattle.runtime.proofs.Answering.{judged_7, judged_8, text_took, text_taken, text_unbuilt, text_stands, text_runnable, text_runs, length_taken}
+use Rattle.runtime.proofs.Answering.{judged_7, judged_8, text_taken, text_unbuilt, text_stands, text_runnable, text_runs, length_taken}
 use Rattle.runtime.proofs.texts.run_text.Goals as goal
 
 pub returns-in-NoProgram : goal.returns-in-NoProgram

@@ -1,4 +1,4 @@
-use Rattle.std.proofs.Common.{◌≡◌, get_or, sym, refl, ap, ◌∙◌}
+use Rattle.std.proofs.Common.{get_or, refl, ap, ◌∙◌}
 use Rattle.semantics.specs.Shapes.{flat}
 use Rattle.semantics.specs.Arrays.{Alike}
 use Rattle.encoding.specs.ShapeOf.{shape_of}

@@ -1,4 +1,4 @@
-use Rattle.std.proofs.Common.{◌≡◌, length, get_or, set, sym, refl, ap, ◌∙◌, subst, arith}
+use Rattle.std.proofs.Common.{sym, subst, arith}
 use Rattle.semantics.specs.Shapes.{In}
 use Rattle.encoding.specs.ShapeOf.{shape_of}
 use Rattle.reference.specs.ArrayOf.{array_of}

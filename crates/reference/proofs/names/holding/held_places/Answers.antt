@@ -1,6 +1,6 @@
-use Rattle.std.proofs.Common.{◌≡◌, ◌<◌, ◌≤◌, map, length, vec_items, sym, refl, ap, ◌∙◌, arith}
+use Rattle.std.proofs.Common.{◌<◌, ◌≤◌, map, length, vec_items, refl, ap, arith}
 use Rattle.std.proofs.lemmas.List.{take_all, length-map}
-use Rattle.semantics.specs.Programs.{cell_size, in_names}
+use Rattle.semantics.specs.Programs.{in_names}
 use Rattle.reference.specs.CellsOf.{cell_of}
 use Rattle.reference.proofs.Cells.{in_names_more}
 use Rattle.reference.proofs.names.holding.held_places.Goals as goal

@@ -1,5 +1,4 @@
-use Rattle.std.proofs.Common.{◌≡◌, ◌+◌, ◌-◌, ◌%◌, ◌<◌, ◌≤◌, ◌++◌, length, get_or, take, drop, sym, refl, ap, ◌∙◌, mod-lt, arith, length-set, rules}
-use Rattle.semantics.specs.Shapes.{size, unflat}
+use Rattle.std.proofs.Common.{◌≡◌, ◌+◌, ◌-◌, ◌<◌, ◌≤◌, length, get_or, mod-lt, arith, length-set, rules}
 use Rattle.reference.proofs.Numbering.{length_some, rest_below, unflat_more, unflat_all}
 use Rattle.reference.proofs.place.numbering.unflatten.Goals as goal
 

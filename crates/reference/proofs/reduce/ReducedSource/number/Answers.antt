@@ -1,7 +1,7 @@
-use Rattle.std.proofs.Common.{◌≡◌, ℕ, ◌-◌, ◌<◌, ◌≤◌, List, length, get_or, set, sym, refl, ap, ◌∙◌, subst, arith}
-use Rattle.semantics.specs.Shapes.{In, without, put_in}
+use Rattle.std.proofs.Common.{ℕ, ◌<◌, ◌≤◌, List, length, get_or, set, sym, ap, ◌∙◌, subst, arith}
+use Rattle.semantics.specs.Shapes.{In, put_in}
 use Rattle.semantics.specs.Arrays.{folded}
-use Rattle.semantics.proofs.Places.{Inside, inside_in, in_inside, length_inside}
+use Rattle.semantics.proofs.Places.{inside_in, in_inside, length_inside}
 use Rattle.semantics.proofs.Inside.{inside_put_in}
 use Rattle.numbers.specs.Operations.{binary64}
 use Rattle.encoding.specs.ShapeOf.{shape_of}

@@ -1,7 +1,6 @@
-use Rattle.std.proofs.Common.{◌≡◌, ℕ, suc, ◌+◌, ◌<◌, ◌≤◌, length, get_or, set, sym, refl, ap, ◌∙◌, subst, arith}
-use Rattle.semantics.specs.Shapes.{In}
+use Rattle.std.proofs.Common.{◌≡◌, suc, ◌+◌, ◌<◌, get_or, set, ap, ◌∙◌, arith}
 use Rattle.semantics.specs.Arrays.{folded}
-use Rattle.semantics.proofs.Places.{Inside, inside_in, in_inside, length_inside, get_d_inside}
+use Rattle.semantics.proofs.Places.{inside_in, in_inside, length_inside, get_d_inside}
 use Rattle.numbers.specs.Operations.{binary64}
 use Rattle.encoding.specs.ShapeOf.{shape_of}
 use Rattle.reference.specs.ArrayOf.{array_of}

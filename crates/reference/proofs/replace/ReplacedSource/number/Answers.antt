@@ -1,4 +1,4 @@
-use Rattle.std.proofs.Common.{◌≡◌, false, sym, ◌∙◌, subst, arith}
+use Rattle.std.proofs.Common.{false, sym, subst, arith}
 use Rattle.semantics.proofs.Places.{inside_in, length_inside}
 use Rattle.encoding.specs.ShapeOf.{shape_of}
 use Rattle.reference.specs.declared.slice.Slice.{Slice}

@@ -1,11 +1,10 @@
-use Rattle.std.proofs.Common.{◌≡◌, true, sym, ap, ◌∙◌, subst}
+use Rattle.std.proofs.Common.{sym, ap, ◌∙◌, subst}
 use Rattle.semantics.specs.Shapes.{In}
 use Rattle.semantics.specs.Orders.{is_order}
 use Rattle.semantics.proofs.Inside.{inside_turned_back}
 use Rattle.semantics.proofs.Orders.{ordered, length_turned}
 use Rattle.semantics.proofs.Places.{inside_in, in_inside, length_inside}
 use Rattle.encoding.specs.ShapeOf.{shape_of}
-use Rattle.reference.specs.IndicesOf.{indices_of}
 use Rattle.reference.proofs.restructure.TransposedSource.number.Goals as goal
 
 pub untransposed_place-requires : goal.untransposed_place-requires
