@@ -3,7 +3,7 @@
 # tests. It fails where `rt ci` does, and where an edit no longer fits the text.
 set -uo pipefail
 cd "$(dirname "$0")/.."
-log=$(mktemp)
+log=$(mktemp) || exit 1
 trap 'rm -f "$log"' EXIT
 rt ci 2>&1 | tee "$log"
 status=${PIPESTATUS[0]}

@@ -7,6 +7,7 @@ use report::report;
 use runtime::answer::Answer;
 use runtime::texts::run_text;
 use std::alloc::AllocError;
+use std::process::ExitCode;
 use std::time::Instant;
 use writer::console::{Options, read_file, read_files, read_options};
 
@@ -70,10 +71,10 @@ fn serve(rt: &HostRuntime) -> anyhow::Result<bool> {
     )
 }
 
-fn main(rt: HostRuntime) -> anyhow::Result<()> {
+fn main(rt: HostRuntime) -> anyhow::Result<ExitCode> {
     if serve(&rt)? {
-        Ok(())
+        Ok(ExitCode::SUCCESS)
     } else {
-        Err(anyhow!(""))
+        Ok(ExitCode::FAILURE)
     }
 }
