@@ -36,12 +36,12 @@ not_good_past bs i h =
     let on = next_at_after bs i in not_good_short bs i (omega arith)
 
 module _ (bs : List ℕ) where
-  row_from_bad : (f i : ℕ) → good_at bs i ≡ false → row_from f bs i ≡ record { offsets = []; stop = i }
+  pub row_from_bad : (f i : ℕ) → good_at bs i ≡ false → row_from f bs i ≡ record { offsets = []; stop = i }
   unfolding row_from
   row_from_bad zero i g = refl
   row_from_bad (suc f) i g = rw g refl
 
-  row_from_good : (f i : ℕ) → good_at bs i ≡ true → row_from (suc f) bs i ≡ behind i (row_from f bs (next_at bs i))
+  pub row_from_good : (f i : ℕ) → good_at bs i ≡ true → row_from (suc f) bs i ≡ behind i (row_from f bs (next_at bs i))
   unfolding row_from
   row_from_good f i g = rw g refl
 

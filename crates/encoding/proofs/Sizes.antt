@@ -3,6 +3,7 @@ use Rattle.std.proofs.Common.{◌≡◌, ℕ, zero, suc, ◌+◌, ◌*◌, ◌<�
 use native.Mathlib.Nat.{min-eq_left, min-eq_right}
 use Rattle.std.proofs.lemmas.List.{take_more}
 use Rattle.std.proofs.lemmas.Bool.{cases_lt}
+use Rattle.std.specs.List.{fold}
 use Rattle.semantics.specs.Shapes.{size}
 
 pub size_push : (xs : List ℕ) (y : ℕ) → size (xs ++ y ∷ []) ≡ size xs * y
@@ -27,3 +28,11 @@ min_mul_capped p d most =
       | inl h ↦ let low : p ≤ most = omega arith in ap (λ n. min (n * d) most) (min-eq_left low)
       | inr h ↦ ap (λ n. min (n * d) most) (min-eq_right h) ∙ min_mul_over p d most h
     ]
+
+-- so is one that is capped at each length
+pub size_capped : (ds : List ℕ) (p most : ℕ) → fold (λ q d. min (q * d) most) (min p most) ds ≡ min (p * size ds) most
+unfolding size
+size_capped [] p most = ap (λ n. min n most) (sym (mul-one p))
+size_capped (d ∷ ds) p most =
+    ap (λ q. fold (λ q d. min (q * d) most) q ds) (min_mul_capped p d most)
+    ∙ (size_capped ds (p * d) most ∙ ap (λ n. min n most) (mul_assoc p d (size ds)))

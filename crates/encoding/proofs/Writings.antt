@@ -1,11 +1,11 @@
 -- Bytes written into a slice: by a copy into a part of it, and one piece after another.
-use Rattle.std.proofs.Common.{◌≡◌, ℕ, ◌+◌, ◌*◌, ◌<◌, ◌≤◌, List, [], ◌∷◌, ◌++◌, length, get_or, take, drop, set, sym, refl, ap, ◌∙◌, add-zero, add_assoc, mul-zero, mul-suc, add-one, arith, length-append, length-drop}
+use Rattle.std.proofs.Common.{◌≡◌, ℕ, ◌+◌, ◌*◌, ◌<◌, ◌≤◌, List, [], ◌∷◌, ◌++◌, length, Option, Some, None, get_or, take, drop, set, sym, refl, ap, subst, ◌∙◌, add-zero, add_assoc, mul-zero, mul-suc, add-one, arith, length-append, length-drop}
 use borrow.Rule.Slice.PartMut.{put_mid}
 use Rattle.std.proofs.lemmas.List.{append_assoc, take_all, take_at, drop_at, drop-drop, length-take-le, take-append-drop, set_split, flat_map_more, take_more}
 use Rattle.std.proofs.lemmas.Slice.{put_mid-paste}
 use Rattle.std.specs.List.{flat_map}
 use Rattle.encoding.specs.Words.{bytes4, bytes8, written}
-use Rattle.encoding.specs.Writing.{head_bytes, number_bytes, array_bytes}
+use Rattle.encoding.specs.Writing.{Writes, head_bytes, number_bytes, array_bytes}
 
 written_is : (bs ws : List ℕ) (at : ℕ) → written bs at ws ≡ take at bs ++ (ws ++ drop (at + length ws) bs)
 unfolding written
@@ -57,6 +57,24 @@ module _ (bs ws : List ℕ) (at : ℕ) (there : at ≤ length bs) where
       ∙ (ap (λ xs. take at bs ++ xs) (sym (append_assoc ws vs (drop (at + length ws + length vs) bs)))
       ∙ (ap (λ m. take at bs ++ ((ws ++ vs) ++ drop m bs)) (add_assoc at (length ws) (length vs) ∙ ap (λ m. at + m) (sym (length-append ws vs)))
       ∙ sym (written_is bs (ws ++ vs) at)))))))
+
+-- where words do not fit, nothing was written
+pub writes_none : {r : Option ℕ} (old ws : List ℕ) (at : ℕ) → r ≡ None → length old < at + length ws → Writes old old at ws r
+writes_none old ws at e small = subst (Writes old old at ws) (sym e) (small, refl)
+
+-- a second piece right behind the first, where both fit
+pub writes_behind : (old mid new ws vs : List ℕ) (at start : ℕ) (r : Option ℕ) → Writes old mid at ws (Some start) → Writes mid new start vs r → at + length (ws ++ vs) ≤ length old → Writes old new at (ws ++ vs) r
+writes_behind old mid new ws vs at start (Some e) first second fits =
+    let size = length-append ws vs in
+    let there : at ≤ length old = omega arith in (
+      omega (arith, first.0, second.0),
+      omega (arith, first.0, second.0),
+      second.2 ∙ (ap (λ m. written m start vs) first.2 ∙ written_written old ws at there vs start first.0),
+    )
+writes_behind old mid new ws vs at start None first second fits =
+    let size = length-append ws vs in
+    let kept = length_written old ws at (omega arith) (omega (arith, first.0)) in
+    absurd (omega (arith, first.0, second.0, ap length first.2))
 
 -- how many bytes words take
 pub length_bytes4 : (x : ℕ) → length (bytes4 x) ≡ 4

@@ -1,7 +1,9 @@
 pub mod Words
 pub mod ShapeOf
+pub mod SameShape
 pub mod Format
 pub mod Headers
 pub mod Inputs
 pub mod Writing
 pub mod ReadBack
+pub mod Slicing

@@ -1,5 +1,5 @@
 // The head of an array in bytes: its shape, and where its numbers lie.
-ghost use Rattle.std.specs.Prelude.{◌≡◌, ◌+◌, ◌*◌, ◌<◌, ◌≤◌, true, false, length, take, MatchResult};
+ghost use Rattle.std.specs.Prelude.{◌≡◌, ◌+◌, ◌*◌, ◌<◌, ◌≤◌, true, false, length, take, MatchOption, MatchResult};
 ghost use Rattle.semantics.specs.Shapes.{size};
 ghost use Rattle.encoding.specs.Format.{rank_at, words_at, shape_at, start_at, next_at, good_at};
 ghost use Rattle.encoding.specs.Headers.{Heads, Flawed};
@@ -29,21 +29,17 @@ pub enum Flaw {
 pub fn header_at(bytes: &[u8], at: usize) -> Result<Header, Flaw>
     ensures { MatchResult result (λ h. Heads bytes.now at h) (λ f. Flawed bytes.now at f) }
 {
-    if at >= bytes.len() {
+    let Some(rank) = bytes.get(at) else {
         return Err(Flaw::Short);
-    }
-    let rank = usize::from(bytes[at]);
+    };
+    let rank = usize::from(*rank);
     if rank > 8 {
         return Err(Flaw::Axes);
     }
-    let room = bytes.len() - at - 1;
-    if room < 4 * rank {
+    let Some(lens) = read_lens(bytes, at + 1, rank) else {
         return Err(Flaw::Short);
-    }
-    let shape = Shape {
-        rank,
-        lens: read_lens(bytes, at + 1, rank),
     };
+    let shape = Shape { rank, lens };
     let start = at + 1 + 4 * rank;
     let places = shape.size();
     if places > ((bytes.len() - start) / 8) as u64 {
@@ -53,18 +49,15 @@ pub fn header_at(bytes: &[u8], at: usize) -> Result<Header, Flaw>
     Ok(Header { shape, start, next })
 }
 
-// The first `count` lengths, of four bytes each, from `at` on.
-fn read_lens(bytes: &[u8], at: usize, count: usize) -> [u32; 8]
+// The first `count` lengths, of four bytes each, from `at` on, or none where the slice ends before they do.
+fn read_lens(bytes: &[u8], at: usize, count: usize) -> Option<[u32; 8]>
     requires few { count ≤ 8 }
-    requires there { at + 4 * count ≤ length bytes.now }
-    ensures { take count result ≡ words_at bytes.now at count }
+    requires there { at ≤ length bytes.now }
+    ensures { MatchOption result (length bytes.now < at + 4 * count) (λ lens. (at + 4 * count ≤ length bytes.now) × (take count lens ≡ words_at bytes.now at count)) }
 {
     let mut lens = [0; 8];
-    for k in 0..count {
-        let Some(len) = read_u32(bytes, at + 4 * k) else {
-            return unreachable();
-        };
-        lens[k] = len;
+    for (k, len) in lens[..count].iter_mut().enumerate() {
+        *len = read_u32(bytes, at + 4 * k)?;
     }
-    lens
+    Some(lens)
 }

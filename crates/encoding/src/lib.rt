@@ -2,9 +2,12 @@
 // (four bytes each) and its numbers (eight bytes each, rows first). Inputs lie one after another.
 #![tactic(auto)]
 
+pub mod broadcast;
 pub mod header;
 pub mod inputs;
 pub mod laws;
+pub mod orders;
 pub mod shape;
+pub mod slices;
 pub mod words;
 pub mod writing;

@@ -10,24 +10,14 @@ use crate::shape::Shape;
 fn end_of(room: usize, at: usize, size: usize) -> Option<usize>
     ensures { MatchOption result (room < at + size) (λ e. (e ≡ at + size) × (e ≤ room)) }
 {
-    if at > room || size > room - at {
-        return None;
-    }
-    Some(at + size)
+    at.checked_add(size).filter(|end| *end <= room)
 }
 
-fn put_u32(room: &mut [u8], at: usize, x: u32)
-    requires { at + 4 ≤ length room.old }
-    ensures { room.new ≡ written room.old at (bytes4 x) }
+fn put(room: &mut [u8], at: usize, bytes: &[u8])
+    requires { at + length bytes.now ≤ length room.old }
+    ensures { room.new ≡ written room.old at bytes.now }
 {
-    room[at..at + 4].copy_from_slice(&x.to_le_bytes());
-}
-
-fn put_u64(room: &mut [u8], at: usize, x: u64)
-    requires { at + 8 ≤ length room.old }
-    ensures { room.new ≡ written room.old at (bytes8 x) }
-{
-    room[at..at + 8].copy_from_slice(&x.to_le_bytes());
+    room[at..at + bytes.len()].copy_from_slice(bytes);
 }
 
 // The number of axes and the lengths at `at`; gives the index behind them, or none, with nothing written,
@@ -35,12 +25,10 @@ fn put_u64(room: &mut [u8], at: usize, x: u64)
 pub fn write_head(room: &mut [u8], at: usize, shape: Shape) -> Option<usize>
     ensures { Writes room.old room.new at (head_bytes (shape_of shape)) result }
 {
-    let Some(end) = end_of(room.len(), at, 1 + 4 * shape.rank) else {
-        return None;
-    };
+    let end = end_of(room.len(), at, 1 + 4 * shape.rank)?;
     room[at] = shape.rank as u8;
-    for k in 0..shape.rank {
-        put_u32(room, at + 1 + 4 * k, shape.lens[k]);
+    for (k, len) in shape.lengths().iter().enumerate() {
+        put(room, at + 1 + 4 * k, &len.to_le_bytes());
     }
     Some(end)
 }
@@ -50,11 +38,9 @@ pub fn write_head(room: &mut [u8], at: usize, shape: Shape) -> Option<usize>
 pub fn write_numbers(room: &mut [u8], at: usize, numbers: &[u64]) -> Option<usize>
     ensures { Writes room.old room.new at (number_bytes numbers.now) result }
 {
-    let Some(end) = end_of(room.len(), at, 8 * numbers.len()) else {
-        return None;
-    };
-    for k in 0..numbers.len() {
-        put_u64(room, at + 8 * k, numbers[k]);
+    let end = end_of(room.len(), at, 8 * numbers.len())?;
+    for (k, number) in numbers.iter().enumerate() {
+        put(room, at + 8 * k, &number.to_le_bytes());
     }
     Some(end)
 }
@@ -63,14 +49,7 @@ pub fn write_numbers(room: &mut [u8], at: usize, numbers: &[u64]) -> Option<usiz
 pub fn write_array(room: &mut [u8], at: usize, shape: Shape, numbers: &[u64]) -> Option<usize>
     ensures { Writes room.old room.new at (array_bytes (shape_of shape) numbers.now) result }
 {
-    let Some(_) = end_of(room.len(), at, 1 + 4 * shape.rank + 8 * numbers.len()) else {
-        return None;
-    };
-    let Some(start) = write_head(room, at, shape) else {
-        return unreachable();
-    };
-    let Some(end) = write_numbers(room, start, numbers) else {
-        return unreachable();
-    };
-    Some(end)
+    end_of(room.len(), at, 1 + 4 * shape.rank + 8 * numbers.len())?;
+    let start = write_head(room, at, shape)?;
+    write_numbers(room, start, numbers)
 }

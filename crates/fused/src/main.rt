@@ -4,7 +4,6 @@
 
 use anyhow::anyhow;
 use report::report;
-use runtime::answer::Answer;
 use runtime::texts::run_text;
 use std::alloc::AllocError;
 use std::process::ExitCode;
@@ -39,8 +38,8 @@ fn lend(rt: &HostRuntime, options: &Options) -> Result<Lent, AllocError> {
     })
 }
 
-// Whether the program ran to its end; what is wrong otherwise has been said.
-fn serve(rt: &HostRuntime) -> anyhow::Result<bool> {
+// Runs the program that the options name; what is wrong has been said where it did not run to its end.
+fn serve(rt: &HostRuntime) -> anyhow::Result<ExitCode> {
     let Some(options) = read_options(rt)? else {
         return Err(anyhow!("{USAGE}"));
     };
@@ -72,9 +71,5 @@ fn serve(rt: &HostRuntime) -> anyhow::Result<bool> {
 }
 
 fn main(rt: HostRuntime) -> anyhow::Result<ExitCode> {
-    if serve(&rt)? {
-        Ok(ExitCode::SUCCESS)
-    } else {
-        Ok(ExitCode::FAILURE)
-    }
+    serve(&rt)
 }

@@ -2,66 +2,61 @@
 // can do where it did not run to its end.
 use encoding::shape::Shape;
 use program::words::place_at;
-use reader::judging::Verdict;
 use reader::programs::judge;
-use runtime::answer::numbering::{refusal_number, refusal_place};
-use runtime::answer::{Answer, Refusal};
-use runtime::fault::numbering::number_of;
+use runtime::answer::Refusal;
 use runtime::fault::{Fault, Stop};
-use runtime::run::End;
-use std::io;
+use runtime::run::Ran;
+use std::process::ExitCode;
+use std::{fmt, io};
 use writer::console::{explain_refused, point_at, print_ended, print_refused, print_shown};
 
 // The lengths of a shape, as a program's output has them.
-fn lengths(rt: &HostRuntime, shape: Shape) -> io::Result<String> {
-    let mut text = String::from_str(rt.alloc(), "shape")?;
-    for k in 0..shape.rank {
-        let len = shape.lens[k];
-        text.push_str(format!(in rt.alloc(); " {len}")?.as_str())?;
+#[derive(Clone, Copy)]
+struct Lengths(Shape);
+
+impl fmt::Display for Lengths {
+    fn fmt<W: fmt::Write>(&self, f: &mut fmt::Formatter<W>) -> fmt::Result {
+        f.write_str("shape")?;
+        for len in self.0.lengths() {
+            write!(f, " {len}")?;
+        }
+        Ok(())
     }
-    Ok(text)
 }
 
-// What a fault is, in words.
-fn describe(rt: &HostRuntime, fault: Fault) -> io::Result<String> {
-    let heap = rt.alloc();
-    match fault {
-        Fault::Shapes(left, right) => {
-            let a = lengths(rt, left)?;
-            let b = lengths(rt, right)?;
-            Ok(format!(in heap; "{a} and {b} cannot be broadcast together")?)
+// What a fault is, in words, and which option helps.
+#[derive(Clone, Copy)]
+struct Advice(Fault);
+
+impl fmt::Display for Advice {
+    fn fmt<W: fmt::Write>(&self, f: &mut fmt::Formatter<W>) -> fmt::Result {
+        match self.0 {
+            Fault::Shapes(left, right) => {
+                let left = Lengths(left);
+                let right = Lengths(right);
+                write!(f, "{left} and {right} cannot be broadcast together")
+            }
+            Fault::Places => f.write_str(
+                "here the statement needs more places than there are: give more by --places",
+            ),
+            Fault::Nothing => f.write_str("this name or input has nothing"),
+            Fault::Room => f.write_str("there is no room to show this: give more by --shown"),
         }
-        Fault::Places => Ok(String::from_str(
-            heap,
-            "here the statement needs more places than there are: give more by --places",
-        )?),
-        Fault::Nothing => Ok(String::from_str(heap, "this name or input has nothing")?),
-        Fault::Room => Ok(String::from_str(
-            heap,
-            "there is no room to show this: give more by --shown",
-        )?),
     }
 }
 
 fn explain_stop(rt: &HostRuntime, text: &[u8], steps: &[u32], stop: Stop) -> io::Result<()> {
-    let place = match place_at(steps, stop.node) {
-        Some(place) => place as usize,
-        None => text.len(),
-    };
-    let words = describe(rt, stop.fault)?;
+    let place = place_at(steps, stop.node).map_or(text.len(), |place| place as usize);
+    let advice = Advice(stop.fault);
+    let words = format!(in rt.alloc(); "{advice}")?;
     point_at(rt, text, place, words.as_str())
 }
 
 fn explain(rt: &HostRuntime, text: &[u8], refusal: Refusal) -> io::Result<()> {
     match refusal {
         Refusal::NoProgram(place) => match judge(text) {
-            Verdict::Taken(_) => point_at(
-                rt,
-                text,
-                place,
-                "this is not built yet: `meaning` runs it",
-            ),
-            _ => explain_refused(rt, text, place),
+            Ok(_) => point_at(rt, text, place, "this is not built yet: `meaning` runs it"),
+            Err(_) => explain_refused(rt, text, place),
         },
         Refusal::TooMuch(place) => point_at(
             rt,
@@ -75,34 +70,27 @@ fn explain(rt: &HostRuntime, text: &[u8], refusal: Refusal) -> io::Result<()> {
     }
 }
 
-// Prints an answer; whether the program ran to its end.
+// Prints a run, or why there was none; the exit status says whether the program ran to its end.
 pub fn report(
     rt: &HostRuntime,
     text: &[u8],
     steps: &[u32],
     room: &[u8],
-    answer: Answer,
-) -> anyhow::Result<bool> {
-    match answer {
-        Answer::Refused(refusal) => {
-            print_refused(
-                rt,
-                u32::from(refusal_number(refusal)),
-                refusal_place(refusal),
-            )?;
+    answer: Result<Ran, Refusal>,
+) -> anyhow::Result<ExitCode> {
+    let ran = match answer {
+        Ok(ran) => ran,
+        Err(refusal) => {
+            print_refused(rt, u32::from(u8::from(refusal)), refusal.place())?;
             explain(rt, text, refusal)?;
-            Ok(false)
+            return Ok(ExitCode::FAILURE);
         }
-        Answer::Run(ran) => {
-            print_shown(rt, room.get(0..ran.shown).unwrap_or(room))?;
-            match ran.end {
-                End::Done => Ok(true),
-                End::Stopped(stop) => {
-                    print_ended(rt, u32::from(number_of(stop.fault)))?;
-                    explain_stop(rt, text, steps, stop)?;
-                    Ok(false)
-                }
-            }
-        }
+    };
+    print_shown(rt, room.get(0..ran.shown).unwrap_or(room))?;
+    if let Err(stop) = ran.end {
+        print_ended(rt, u32::from(u8::from(stop.fault)))?;
+        explain_stop(rt, text, steps, stop)?;
+        return Ok(ExitCode::FAILURE);
     }
+    Ok(ExitCode::SUCCESS)
 }

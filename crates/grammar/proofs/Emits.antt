@@ -1,6 +1,7 @@
 -- The steps of a program with the last one first, as the automaton gives them.
 use Rattle.std.proofs.Common.{◌≡◌, ℕ, List, [], ◌∷◌, refl, ◌∙◌}
 use Rattle.semantics.specs.Parts.{Part}
+use Rattle.semantics.specs.Slices.{slice_of}
 use Rattle.semantics.specs.Values.{Expr, name, input, constant, count, each, both, choose, fold, scan, shape_to, turn, part, join, rows}
 use Rattle.semantics.specs.Programs.{Program, end, be, put, show, again}
 use Rattle.program.specs.declared.step.Step.{Step}
@@ -12,7 +13,7 @@ emit_items [] o = o
 emit_items (k ∷ ks) o = emit_items ks (Step.Item k ∷ o)
 
 unfoldable pub slice : Part → Step
-slice p = Step.Slice p.from p.backward p.step p.many
+slice p = Step.Slice (slice_of p)
 
 unfoldable pub emit_parts : List Part → List Step → List Step
 unfolding slice

@@ -4,6 +4,7 @@ use Rattle.semantics.specs.declared.operation.Unary.{Unary}
 use Rattle.semantics.specs.declared.operation.Unary.TheVariants.{Neg, Abs, Sqrt, Floor, Not}
 use Rattle.semantics.specs.declared.operation.Binary.{Binary}
 use Rattle.semantics.specs.declared.operation.Binary.TheVariants.{Add, Sub, Mul, Div, Less, Same, Least, Most}
+use Rattle.program.specs.Words.{sliced}
 use Rattle.program.specs.declared.step.Step.{Step}
 use Rattle.grammar.specs.Letters.{Letter, letter, begins, plain, plains, flagged}
 use Rattle.grammar.specs.Words.{Word, unary_word, binary_word}
@@ -138,10 +139,10 @@ module _ (ns : List Word) (o : List Step) (s : List Symbol) (r : List Letter) wh
   unfolding along
   step_colon f b v = refl
 
-  pub part_last : (f : ℕ) (b : _) (v m : ℕ) → along (at ns o (Symbol.Digits (Number.Many f b v) ∷ Symbol.More Bracket.Parts ∷ s) [] m) (plain 93 ∷ r) ≡ along (at ns (Step.Slice f b v m ∷ o) s [] 0) r
+  pub part_last : (f : ℕ) (b : _) (v m : ℕ) → along (at ns o (Symbol.Digits (Number.Many f b v) ∷ Symbol.More Bracket.Parts ∷ s) [] m) (plain 93 ∷ r) ≡ along (at ns (sliced f b v m ∷ o) s [] 0) r
   unfolding along
   part_last f b v m = refl
 
-  pub part_comma : (f : ℕ) (b : _) (v m : ℕ) → along (at ns o (Symbol.Digits (Number.Many f b v) ∷ Symbol.More Bracket.Parts ∷ s) [] m) (plain 44 ∷ plain 32 ∷ r) ≡ along (at ns (Step.Slice f b v m ∷ o) (Symbol.Item Bracket.Parts ∷ Symbol.More Bracket.Parts ∷ s) [] 0) r
+  pub part_comma : (f : ℕ) (b : _) (v m : ℕ) → along (at ns o (Symbol.Digits (Number.Many f b v) ∷ Symbol.More Bracket.Parts ∷ s) [] m) (plain 44 ∷ plain 32 ∷ r) ≡ along (at ns (sliced f b v m ∷ o) (Symbol.Item Bracket.Parts ∷ Symbol.More Bracket.Parts ∷ s) [] 0) r
   unfolding along
   part_comma f b v m = refl

@@ -5,6 +5,7 @@ use Rattle.semantics.specs.Parts.{Part}
 use Rattle.semantics.specs.Values.{Expr}
 use Rattle.semantics.specs.Programs.{Program}
 use Rattle.semantics.specs.declared.operation.Binary.{Binary as Two}
+use Rattle.program.specs.Words.{sliced}
 use Rattle.program.specs.declared.step.Step.{Step}
 use Rattle.program.specs.Spelling.{items, slices, spell, spell_program}
 use Rattle.grammar.specs.Letters.{Letter, begins, closes, plain, plains, flagged}
@@ -37,9 +38,9 @@ pub data Follows (ms : List Word) : Number → ℕ → ℕ → ℕ → List Lett
   a_join : {k n m o : ℕ} {e f : W} {g : List Letter} {b : List Step} → Fits Sixteen e n m → Fits Sixteen f m o → Follows ms Number.Join k n o (plain 40 ∷ write_expr ms e (plain 44 ∷ plain 32 ∷ write_expr ms f (plain 41 ∷ g))) g (Step.Join k ∷ spelled_expr e (spelled_expr f b)) b
   an_again : {k n m : ℕ} {p : Program (List ℕ)} {g : List Letter} {b : List Step} → FitLines Sixteen p n m → Follows ms Number.Again k n m (plain 10 ∷ write_lines ms p (flagged closes (codes "end") g)) g (Step.Again k ∷ spell_program (read_program p) (Step.End ∷ b)) b
   an_item : {k n : ℕ} {g : List Letter} {b : List Step} → Follows ms Number.Item k n n g g (Step.Item k ∷ b) b
-  a_from : {k n s m : ℕ} {c : Bool} {g : List Letter} {b : List Step} → Small s → Small m → Follows ms Number.From k n n (plain 58 ∷ plains (sign c) (write_number s (plain 58 ∷ write_number m g))) g (Step.Slice k c s m ∷ b) b
-  a_step : {k n f m : ℕ} {c : Bool} {g : List Letter} {b : List Step} → Small m → Follows ms (Number.Step f c) k n n (plain 58 ∷ write_number m g) g (Step.Slice f c k m ∷ b) b
-  a_many : {k n f s : ℕ} {c : Bool} {g : List Letter} {b : List Step} → Follows ms (Number.Many f c s) k n n g g (Step.Slice f c s k ∷ b) b
+  a_from : {k n s m : ℕ} {c : Bool} {g : List Letter} {b : List Step} → Small s → Small m → Follows ms Number.From k n n (plain 58 ∷ plains (sign c) (write_number s (plain 58 ∷ write_number m g))) g (sliced k c s m ∷ b) b
+  a_step : {k n f m : ℕ} {c : Bool} {g : List Letter} {b : List Step} → Small m → Follows ms (Number.Step f c) k n n (plain 58 ∷ write_number m g) g (sliced f c k m ∷ b) b
+  a_many : {k n f s : ℕ} {c : Bool} {g : List Letter} {b : List Step} → Follows ms (Number.Many f c s) k n n g g (sliced f c s k ∷ b) b
 
 -- a symbol of which the word w and the number v have come: the letters that may follow, up to those behind it; its steps, up to those behind it
 pub data Says (ms : List Word) : Symbol → Word → ℕ → ℕ → ℕ → List Letter → List Letter → List Step → List Step → Type 0 where
@@ -62,7 +63,7 @@ pub data Says (ms : List Word) : Symbol → Word → ℕ → ℕ → ℕ → Lis
   says_more_parts : {w : Word} {v n : ℕ} {ps : List Part} {g : List Letter} {b : List Step} → SmallParts ps → Says ms (Symbol.More Bracket.Parts) w v n n (write_more_parts ps (plain 93 ∷ g)) g (slices ps b) b
   says_item : {w : Word} {v n k : ℕ} {g : List Letter} {b : List Step} → Small k → Says ms (Symbol.Item Bracket.Numbers) w v n n (write_item k g) g (Step.Item k ∷ b) b
   says_part : {w : Word} {v n : ℕ} {p : Part} {g : List Letter} {b : List Step} → SmallPart p → Says ms (Symbol.Item Bracket.Parts) w v n n (write_part p g) g (slices (p ∷ []) b) b
-  says_step : {w : Word} {v n f s m : ℕ} {c : Bool} {g : List Letter} {b : List Step} → Small s → Small m → Says ms (Symbol.Step f) w v n n (plains (sign c) (write_number s (plain 58 ∷ write_number m g))) g (Step.Slice f c s m ∷ b) b
+  says_step : {w : Word} {v n f s m : ℕ} {c : Bool} {g : List Letter} {b : List Step} → Small s → Small m → Says ms (Symbol.Step f) w v n n (plains (sign c) (write_number s (plain 58 ∷ write_number m g))) g (sliced f c s m ∷ b) b
 
 -- a stack, of whose topmost symbol a word or number has come: the symbols one after the other, and nothing behind the last
 pub data SaysAll (ms : List Word) : List Symbol → Word → ℕ → ℕ → ℕ → List Letter → List Step → Type 0 where

@@ -1,12 +1,14 @@
 -- Looking for a word in a table, one entry after the other.
-use Rattle.std.proofs.Common.{◌≡◌, ℕ, suc, ◌+◌, ◌-◌, ◌<◌, ◌≤◌, Bool, true, false, ◌&&◌, ◌||◌, eqb, ltb, List, [], ◌∷◌, length, get_or, take, drop, Some, None, sym, refl, ap, ◌∙◌, arith}
+use Rattle.std.proofs.Common.{◌≡◌, ℕ, suc, ◌+◌, ◌-◌, ◌<◌, ◌≤◌, Bool, true, false, ◌&&◌, ◌||◌, eqb, ltb, cond, Option, List, [], ◌∷◌, length, get_or, take, drop, Some, None, sym, refl, ap, ◌∙◌, arith}
 use lib.Pointwise.{pointwise}
+use Rattle.std.specs.Option.{is_some as option_is_some}
+use Rattle.std.specs.List.{list_any, list_all, find as first_of}
 use Rattle.std.proofs.lemmas.List.{at_drop_more, at_drop_all, take_all}
 use Rattle.std.proofs.lemmas.Bool.{le-ltb, lt-ltb, ne_eqb, and_right}
 use Rattle.std.proofs.lemmas.Bool.Decides.{same_from_decides, Decides-eqb}
 use Rattle.std.proofs.lemmas.Slice.Eq.{slice_eq-Decides, IsBytesEq, compares_Decides}
 use Rattle.semantics.specs.Shapes.{pick}
-use Rattle.grammar.specs.Words.{Word, same_word, begins_word, find, is_some, begins_some, is_letter, all_in_word, shaped, head_word, heads, unary_word, binary_word}
+use Rattle.grammar.specs.Words.{Word, same_word, begins_word, find, is_some, begins_some, is_letter, in_word, all_in_word, shaped, head_word, heads, unary_word, binary_word}
 
 compares : IsBytesEq same_word
 unfolding same_word
@@ -26,24 +28,6 @@ pub begins_is : (u w : Word) (r : Bool) → r ≡ pointwise eqb u (take (length 
 begins_is u w r h = same_is u (take (length u) w) r h ∙ sym (begins_by_same u w)
 
 module _ {A : Type 0} (spelled : A → Word) (xs : List A) (w : Word) where
-  pub find_here : (k : ℕ) (d : A) → k < length xs → same_word w (spelled (get_or xs k d)) ≡ true → find spelled (drop k xs) w ≡ Some (get_or xs k d)
-  unfolding find
-  find_here k d low same =
-      let here : find spelled (drop k xs) w ≡ pick (same_word w (spelled (get_or xs k d))) (Some (get_or xs k d)) (find spelled (drop (k + 1) xs) w) =
-      at_drop_more (λ ys. find spelled ys w) xs k d low in
-      here ∙ ap (λ t. pick t (Some (get_or xs k d)) (find spelled (drop (k + 1) xs) w)) same
-
-  pub find_on : (k : ℕ) (d : A) → k < length xs → same_word w (spelled (get_or xs k d)) ≡ false → find spelled (drop k xs) w ≡ find spelled (drop (k + 1) xs) w
-  unfolding find
-  find_on k d low same =
-      let here : find spelled (drop k xs) w ≡ pick (same_word w (spelled (get_or xs k d))) (Some (get_or xs k d)) (find spelled (drop (k + 1) xs) w) =
-      at_drop_more (λ ys. find spelled ys w) xs k d low in
-      here ∙ ap (λ t. pick t (Some (get_or xs k d)) (find spelled (drop (k + 1) xs) w)) same
-
-  pub find_none : (k : ℕ) → length xs ≤ k → find spelled (drop k xs) w ≡ None
-  unfolding find
-  find_none k past = at_drop_all (λ ys. find spelled ys w) xs k past
-
   pub some_here : (k : ℕ) (d : A) → k < length xs → same_word w (spelled (get_or xs k d)) ≡ true → is_some spelled (drop k xs) w ≡ true
   unfolding is_some
   some_here k d low same =
@@ -79,6 +63,42 @@ module _ {A : Type 0} (spelled : A → Word) (xs : List A) (w : Word) where
   pub begins_none : (k : ℕ) → length xs ≤ k → begins_some spelled (drop k xs) w ≡ false
   unfolding begins_some
   begins_none k past = at_drop_all (λ ys. begins_some spelled ys w) xs k past
+
+-- the same in the words of the library
+pub any_is : {A : Type 0} (spelled : A → Word) (xs : List A) (w : Word) → list_any (λ a. same_word w (spelled a)) xs ≡ is_some spelled xs w
+unfolding is_some
+any_is spelled [] w = refl
+any_is spelled (a ∷ xs) w = ap (λ t. same_word w (spelled a) || t) (any_is spelled xs w)
+
+pub any_begins : {A : Type 0} (spelled : A → Word) (xs : List A) (w : Word) → list_any (λ a. begins_word w (spelled a)) xs ≡ begins_some spelled xs w
+unfolding begins_some
+any_begins spelled [] w = refl
+any_begins spelled (a ∷ xs) w = ap (λ t. begins_word w (spelled a) || t) (any_begins spelled xs w)
+
+first_on : {A : Type 0} (b : Bool) (a : A) (o p : Option A) → o ≡ p → cond b (Some a) o ≡ pick b (Some a) p
+first_on true a o p e = refl
+first_on false a o p e = e
+
+pub first_is : {A : Type 0} (spelled : A → Word) (xs : List A) (w : Word) → first_of (λ a. same_word w (spelled a)) xs ≡ find spelled xs w
+unfolding find
+first_is spelled [] w = refl
+first_is spelled (a ∷ xs) w = first_on (same_word w (spelled a)) a _ _ (first_is spelled xs w)
+
+found_on : {A : Type 0} (b : Bool) (a : A) (o : Option A) → option_is_some (pick b (Some a) o) ≡ (b || option_is_some o)
+found_on true a o = refl
+found_on false a o = refl
+
+-- found, it is one of them
+pub found_is : {A : Type 0} (spelled : A → Word) (xs : List A) (w : Word) → option_is_some (find spelled xs w) ≡ is_some spelled xs w
+unfolding find is_some
+found_is spelled [] w = refl
+found_is spelled (a ∷ xs) w =
+    found_on (same_word w (spelled a)) a (find spelled xs w) ∙ ap (λ t. same_word w (spelled a) || t) (found_is spelled xs w)
+
+pub all_is : (w : Word) → list_all in_word w ≡ all_in_word w
+unfolding all_in_word
+all_is [] = refl
+all_is (b ∷ w) = ap (λ t. in_word b && t) (all_is w)
 
 and_true : (t : Bool) → (t && true) ≡ t
 and_true true = refl

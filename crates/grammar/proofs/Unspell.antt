@@ -1,6 +1,7 @@
 -- A program is determined by its steps: they are read backward, each takes what it needs from what stands behind it.
 use Rattle.std.proofs.Common.{◌≡◌, ℕ, List, [], ◌∷◌, ◌++◌, sym, refl, ap, ◌∙◌}
 use Rattle.semantics.specs.Parts.{Part}
+use Rattle.semantics.specs.Slices.{part_of}
 use Rattle.semantics.specs.Values.{Expr, name, input, constant, count, each, both, choose, fold, scan, shape_to, turn, part, join, rows}
 use Rattle.semantics.specs.Programs.{Program, end, be, put, show, again}
 use Rattle.program.specs.declared.step.Step.{Step}
@@ -70,9 +71,9 @@ behind (Step.Part ∷ r) = on_one (λ e. part (behind r).parts e) (behind r)
 behind (Step.Join x ∷ r) = on_two (λ e f. join x e f) (behind r)
 behind (Step.Rows ∷ r) = on_two (λ e f. rows e f) (behind r)
 behind (Step.Item k ∷ r) = let b = behind r in record { numbers = k ∷ b.numbers; parts = b.parts; exprs = b.exprs; programs = b.programs }
-behind (Step.Slice f c s m ∷ r) =
+behind (Step.Slice s ∷ r) =
     let b = behind r in
-    record { numbers = b.numbers; parts = record { from = f; backward = c; step = s; many = m } ∷ b.parts; exprs = b.exprs; programs = b.programs }
+    record { numbers = b.numbers; parts = part_of s ∷ b.parts; exprs = b.exprs; programs = b.programs }
 
 with_items : List ℕ → Behind → Behind
 with_items ks b = record { numbers = ks ++ b.numbers; parts = b.parts; exprs = b.exprs; programs = b.programs }

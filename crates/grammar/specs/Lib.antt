@@ -1,7 +1,6 @@
 -- What a text is: the bytes and their marks, words, how a program is written, texts. How one is read: the table of moves, the automaton.
 pub mod Letters
 pub mod Words
-pub mod Tables
 pub mod Constants
 pub mod Sayable
 pub mod Written

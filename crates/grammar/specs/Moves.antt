@@ -2,6 +2,7 @@
 use Rattle.std.specs.Prelude.{ℕ, zero, suc, ◌+◌, ◌-◌, ◌*◌, Bool, true, false, ◌&&◌, ◌||◌, List, [], ◌∷◌, ◌++◌, length, Some, None, codes, Option, ◌==◌, nat_le, nat_lt}
 use Rattle.semantics.specs.Shapes.{pick}
 use Rattle.semantics.specs.declared.operation.Binary.{Binary as Two}
+use Rattle.program.specs.Words.{sliced}
 use Rattle.program.specs.declared.step.Step.{Step}
 use Rattle.grammar.specs.Letters.{Flag, inside, begins, opens, closes}
 use Rattle.grammar.specs.Words.{Word, same_word, find, is_some, begins_some, itself, head_word, heads, binary_word, binaries, is_digit, in_word, shaped, is_name}
@@ -106,7 +107,7 @@ number_step Number.Again v = Step.Again v ∷ []
 number_step Number.Item v = Step.Item v ∷ []
 number_step Number.From v = []
 number_step (Number.Step f b) v = []
-number_step (Number.Many f b s) v = Step.Slice f b s v ∷ []
+number_step (Number.Many f b s) v = sliced f b s v ∷ []
 
 unfoldable pub number_rest : Number → ℕ → List Symbol
 unfolding operands

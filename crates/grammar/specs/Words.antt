@@ -71,6 +71,9 @@ head_word Part = codes "part"
 head_word Join = codes "join"
 head_word Rows = codes "rows"
 
+unfoldable pub unaries : List Unary
+unaries = Neg ∷ Abs ∷ Sqrt ∷ Floor ∷ Not ∷ []
+
 unfoldable pub binaries : List Binary
 binaries = Add ∷ Sub ∷ Mul ∷ Div ∷ Less ∷ Same ∷ Least ∷ Most ∷ []
 

@@ -1,8 +1,7 @@
 // Words: those of the language, those kept for later, and names.
 ghost use Rattle.std.specs.Prelude.{◌≡◌, Some};
-ghost use Rattle.grammar.specs.Words.{same_word, begins_word, find, is_some, begins_some, unary_word, binary_word, binaries, head_word, heads, itself, kept_words, reserved, all_in_word, shaped, is_name};
+ghost use Rattle.grammar.specs.Words.{same_word, begins_word, find, is_some, begins_some, unary_word, unaries, binary_word, binaries, head_word, heads, itself, kept_words, reserved, all_in_word, shaped, is_name};
 ghost use Rattle.semantics.specs.Shapes.{pick};
-ghost use Rattle.grammar.specs.Tables.{head_at, binary_at, kept_at};
 
 use crate::letters::{in_word, is_letter};
 use crate::symbol::Head;
@@ -21,7 +20,8 @@ pub fn begins_word(part: &[u8], word: &[u8]) -> bool
     word.starts_with(part)
 }
 
-fn unary_word(k: Unary) -> &'static [u8]
+#[tactic(auto, unfolding(crate::specs::Words::unary_word))]
+pub fn unary_word(k: Unary) -> &'static [u8]
     ensures { result.now ≡ unary_word k }
 {
     match k {
@@ -33,7 +33,8 @@ fn unary_word(k: Unary) -> &'static [u8]
     }
 }
 
-fn binary_word(k: Binary) -> &'static [u8]
+#[tactic(auto, unfolding(crate::specs::Words::binary_word))]
+pub fn binary_word(k: Binary) -> &'static [u8]
     ensures { result.now ≡ binary_word k }
 {
     match k {
@@ -48,6 +49,7 @@ fn binary_word(k: Binary) -> &'static [u8]
     }
 }
 
+#[tactic(auto, unfolding(crate::specs::Words::head_word))]
 fn head_word(head: Head) -> &'static [u8]
     ensures { result.now ≡ head_word head }
 {
@@ -67,82 +69,61 @@ fn head_word(head: Head) -> &'static [u8]
     }
 }
 
-// Head k in the order of the table, and the first where there is none.
-fn head_at(k: usize) -> Head
-    ensures { result ≡ head_at k }
-{
-    match k {
-        0 => Head::In,
-        1 => Head::Count,
-        2 => Head::Each(Unary::Neg),
-        3 => Head::Each(Unary::Abs),
-        4 => Head::Each(Unary::Sqrt),
-        5 => Head::Each(Unary::Floor),
-        6 => Head::Each(Unary::Not),
-        7 => Head::Both(Binary::Add),
-        8 => Head::Both(Binary::Sub),
-        9 => Head::Both(Binary::Mul),
-        10 => Head::Both(Binary::Div),
-        11 => Head::Both(Binary::Less),
-        12 => Head::Both(Binary::Same),
-        13 => Head::Both(Binary::Least),
-        14 => Head::Both(Binary::Most),
-        15 => Head::Choose,
-        16 => Head::Fold,
-        17 => Head::Scan,
-        18 => Head::Shape,
-        19 => Head::Turn,
-        20 => Head::Part,
-        21 => Head::Join,
-        22 => Head::Rows,
-        _ => Head::In,
-    }
-}
+// The words of the language in the order in which they are looked for.
+// Stays beside program's tables: those are in the order of codes in stored steps, which may come to differ.
+const UNARIES: [Unary; 5] = [
+    Unary::Neg,
+    Unary::Abs,
+    Unary::Sqrt,
+    Unary::Floor,
+    Unary::Not,
+];
 
-// Operation k on two numbers in the order of the table, and the first where there is none.
-fn binary_at(k: usize) -> Binary
-    ensures { result ≡ binary_at k }
-{
-    match k {
-        0 => Binary::Add,
-        1 => Binary::Sub,
-        2 => Binary::Mul,
-        3 => Binary::Div,
-        4 => Binary::Less,
-        5 => Binary::Same,
-        6 => Binary::Least,
-        7 => Binary::Most,
-        _ => Binary::Add,
-    }
-}
+const BINARIES: [Binary; 8] = [
+    Binary::Add,
+    Binary::Sub,
+    Binary::Mul,
+    Binary::Div,
+    Binary::Less,
+    Binary::Same,
+    Binary::Least,
+    Binary::Most,
+];
 
-// Kept word k, and an empty one where there is none.
-fn kept_at(k: usize) -> &'static [u8]
-    ensures { result.now ≡ kept_at k }
-{
-    match k {
-        0 => b"let",
-        1 => b"put",
-        2 => b"show",
-        3 => b"again",
-        4 => b"end",
-        5 => b"if",
-        6 => b"else",
-        7 => b"while",
-        8 => b"within",
-        9 => b"def",
-        10 => b"give",
-        11 => b"num",
-        12 => b"whole",
-        13 => b"sort",
-        14 => b"order",
-        15 => b"total",
-        16 => b"dot",
-        _ => b"",
-    }
-}
+const HEADS: [Head; 23] = [
+    Head::In,
+    Head::Count,
+    Head::Each(Unary::Neg),
+    Head::Each(Unary::Abs),
+    Head::Each(Unary::Sqrt),
+    Head::Each(Unary::Floor),
+    Head::Each(Unary::Not),
+    Head::Both(Binary::Add),
+    Head::Both(Binary::Sub),
+    Head::Both(Binary::Mul),
+    Head::Both(Binary::Div),
+    Head::Both(Binary::Less),
+    Head::Both(Binary::Same),
+    Head::Both(Binary::Least),
+    Head::Both(Binary::Most),
+    Head::Choose,
+    Head::Fold,
+    Head::Scan,
+    Head::Shape,
+    Head::Turn,
+    Head::Part,
+    Head::Join,
+    Head::Rows,
+];
+
+// Words that are no names, and no heads either.
+const KEPT: [&[u8]; 17] = [
+    b"let", b"put", b"show", b"again", b"end", b"if", b"else", b"while", b"within", b"def",
+    b"give", b"num", b"whole", b"sort", b"order", b"total", b"dot",
+];
 
 // The head where the bytes are those, else the other one.
+// Stays: a match on byte strings is a test for each byte, and its goals (48 at the 17 words of `is_kept`) did not close.
 fn head_or(rest: &[u8], bytes: &[u8], head: Head, other: Option<Head>) -> Option<Head>
     ensures { result ≡ pick (same_word rest.now bytes.now) (Some head) other }
 {
@@ -156,12 +137,10 @@ fn head_or(rest: &[u8], bytes: &[u8], head: Head, other: Option<Head>) -> Option
 pub fn find_head(word: &[u8]) -> Option<Head>
     ensures { result ≡ find head_word heads word.now }
 {
-    let len = word.len();
-    if len == 0 {
+    let [first, rest @ ..] = word else {
         return None;
-    }
-    let rest = &word[1..len];
-    match word[0] {
+    };
+    match *first {
         b'a' => head_or(
             rest,
             b"bs",
@@ -229,66 +208,56 @@ pub fn find_head(word: &[u8]) -> Option<Head>
     }
 }
 
+// The operation on one number that the word is, or none.
+pub fn find_unary(word: &[u8]) -> Option<Unary>
+    ensures { result ≡ find unary_word unaries word.now }
+{
+    UNARIES
+        .iter()
+        .copied()
+        .find(|unary| same_word(word, unary_word(*unary)))
+}
+
 // The operation on two numbers that the word is, or none.
 pub fn find_binary(word: &[u8]) -> Option<Binary>
     ensures { result ≡ find binary_word binaries word.now }
 {
-    for k in 0..8 {
-        let binary = binary_at(k);
-        if same_word(word, binary_word(binary)) {
-            return Some(binary);
-        }
-    }
-    None
+    BINARIES
+        .iter()
+        .copied()
+        .find(|binary| same_word(word, binary_word(*binary)))
 }
 
 fn is_head(word: &[u8]) -> bool
     ensures { result ≡ is_some head_word heads word.now }
 {
-    for k in 0..23 {
-        if same_word(word, head_word(head_at(k))) {
-            return true;
-        }
-    }
-    false
+    find_head(word).is_some()
 }
 
 fn is_kept(word: &[u8]) -> bool
     ensures { result ≡ is_some itself kept_words word.now }
 {
-    for k in 0..17 {
-        if same_word(word, kept_at(k)) {
-            return true;
-        }
-    }
-    false
+    KEPT.iter().any(|kept| same_word(word, kept))
 }
 
 // Whether the word is the beginning of a head.
 pub fn begins_head(word: &[u8]) -> bool
     ensures { result ≡ begins_some head_word heads word.now }
 {
-    for k in 0..23 {
-        if begins_word(word, head_word(head_at(k))) {
-            return true;
-        }
-    }
-    false
+    HEADS.iter().any(|head| begins_word(word, head_word(*head)))
 }
 
 // Whether the word is the beginning of an operation on two numbers.
 pub fn begins_binary(word: &[u8]) -> bool
     ensures { result ≡ begins_some binary_word binaries word.now }
 {
-    for k in 0..8 {
-        if begins_word(word, binary_word(binary_at(k))) {
-            return true;
-        }
-    }
-    false
+    BINARIES
+        .iter()
+        .any(|binary| begins_word(word, binary_word(*binary)))
 }
 
 // Whether the word cannot be a name, though it may be shaped as one.
+#[tactic(auto, unfolding(crate::specs::Words::reserved))]
 pub fn is_reserved(word: &[u8]) -> bool
     ensures { result ≡ reserved word.now }
 {
@@ -299,31 +268,20 @@ pub fn is_reserved(word: &[u8]) -> bool
 fn all_in_word(word: &[u8]) -> bool
     ensures { result ≡ all_in_word word.now }
 {
-    for b in word {
-        if !in_word(*b) {
-            return false;
-        }
-    }
-    true
+    word.iter().all(|b| in_word(*b))
 }
 
 // A letter first, then letters and digits, 8 in all at most.
 pub fn is_shaped(word: &[u8]) -> bool
     ensures { result ≡ shaped word.now }
 {
-    let len = word.len();
-    if len == 0 {
+    let [first, rest @ ..] = word else {
         return false;
-    }
-    if len > 8 {
-        return false;
-    }
-    if !is_letter(word[0]) {
-        return false;
-    }
-    all_in_word(&word[1..len])
+    };
+    rest.len() < 8 && is_letter(*first) && all_in_word(rest)
 }
 
+#[tactic(auto, unfolding(crate::specs::Words::is_name))]
 pub fn is_name(word: &[u8]) -> bool
     ensures { result ≡ is_name word.now }
 {

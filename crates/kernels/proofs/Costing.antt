@@ -1,5 +1,5 @@
 -- What a tree takes, by the step that is read at its node.
-use Rattle.std.proofs.Common.{◌≡◌, ℕ, ◌+◌, ◌<◌, ◌≤◌, max, List, length, refl, ap, ◌∙◌, ap₂, arith}
+use Rattle.std.proofs.Common.{◌≡◌, ℕ, ◌+◌, ◌<◌, ◌≤◌, max, List, length, refl, ap, ◌∙◌, ap₂, arith, Option}
 use Rattle.semantics.specs.declared.operation.Unary.{Unary}
 use Rattle.semantics.specs.declared.operation.Binary.{Binary}
 use Rattle.semantics.specs.Values.{Expr, name, input, constant, count, each, both, choose, fold, scan, shape_to, turn, part, join, rows}
@@ -15,8 +15,8 @@ use Rattle.program.specs.Standing.{steps_from, Skips, View, is_name, is_input, i
 use Rattle.program.proofs.Lengths.{length_spell}
 use Rattle.program.proofs.Nodes.{expr_view, expr_there, expr_further, length_from}
 use Rattle.program.proofs.Storing.{length_steps_in}
+use Rattle.views.specs.declared.view.View.{View as Slot-view}
 use Rattle.kernels.specs.declared.cost.Cost.{Cost}
-use Rattle.kernels.specs.declared.slot.Slot.{Slot}
 use Rattle.kernels.specs.Trees.{Fusable, Leaves}
 use Rattle.kernels.specs.Filling.{Ready, blocks, TreeStands, Costs}
 use Rattle.kernels.proofs.Growing.{skips_each, skips_both, skips_choose}
@@ -59,7 +59,7 @@ leaves_fuse ins ns w (part ps e) l = l
 leaves_fuse ins ns w (join x e f) l = l
 leaves_fuse ins ns w (rows e f) l = l
 
-pub ready_tree : {ws : List ℕ} {i : ℕ} {table : List Slot} {area bs w : List ℕ} → Ready ws i table area bs w → TreeStands ws i
+pub ready_tree : {ws : List ℕ} {i : ℕ} {table : List (Option Slot-view)} {area bs w : List ℕ} → Ready ws i table area bs w → TreeStands ws i
 ready_tree {bs = bs} {w = w} q = record { expr = q.expr; rest = q.rest; enc = q.enc; tree = leaves_fuse (inputs_of bs) q.names w q.expr q.leaves }
 
 pub tree_there : {ws : List ℕ} {i : ℕ} → length (steps_in ws) ≤ i → TreeStands ws i → ⊥

@@ -1,5 +1,5 @@
 -- Leaves: which view a name or an input is, and what the view shows where it is broadcast.
-use Rattle.std.proofs.Common.{◌≡◌, ℕ, zero, suc, ◌+◌, ◌-◌, ◌*◌, ◌/◌, ◌%◌, ◌<◌, ◌≤◌, eqb, List, [], ◌∷◌, ◌++◌, map, length, get_or, take, drop, pos, ◌+ℤ◌, nat_abs, sym, refl, ap, ◌∙◌, subst, ⊎_elim, add-mul, one-mul, div-add-mod', arith, length-append}
+use Rattle.std.proofs.Common.{◌≡◌, ℕ, zero, suc, ◌+◌, ◌-◌, ◌*◌, ◌/◌, ◌%◌, ◌<◌, ◌≤◌, eqb, List, [], ◌∷◌, ◌++◌, map, length, get_or, take, drop, pos, ◌+ℤ◌, nat_abs, sym, refl, ap, ◌∙◌, subst, ⊎_elim, add-mul, one-mul, div-add-mod', arith, length-append, Option, Some, None}
 use lib.IntN.{+ℤ_idr}
 use lib.Ieee.{Float}
 use Rattle.std.proofs.lemmas.Nat.{mod-mul-add}
@@ -18,8 +18,6 @@ use Rattle.views.specs.Views.{Good, Reaches, Holds, address, number_from, seen}
 use Rattle.views.proofs.Walks.{dot_none}
 use Rattle.views.proofs.Seeing.{reaches_less, good_lies}
 use Rattle.views.specs.Broadcasting.{Spread, broadcast_array}
-use Rattle.kernels.specs.declared.slot.Slot.{Slot}
-use Rattle.kernels.specs.declared.slot.Slot.TheVariants.{Empty, Held}
 use Rattle.kernels.specs.Blocks.{StandFor}
 use Rattle.kernels.specs.Trees.{cell_number, Leaf, CellLeaf, leaf}
 use Rattle.kernels.specs.Filling.{SlotHolds, empty, held, NameReady, CellFilled}
@@ -83,15 +81,15 @@ single_filled {area} {bs} {v} {a} {w} {first} {out} h e s =
     }
 
 -- ---- names
-pub record SlotView (area bs w : List ℕ) (slot : Slot) (cell : Cell ℕ) : Type 0 where
+pub record SlotView (area bs w : List ℕ) (slot : Option View) (cell : Cell ℕ) : Type 0 where
   pub view : View
   pub array : Array ℕ
-  pub slot_is : slot ≡ Held view
+  pub slot_is : slot ≡ Some view
   pub cell_is : cell ≡ some array
   pub holds : Holds area bs view array
   pub leaf_is : Leaf w array
 
-pub slot_view : {area bs w : List ℕ} {slot : Slot} {cell : Cell ℕ} → SlotHolds area bs slot cell → CellLeaf w cell → SlotView area bs w slot cell
+pub slot_view : {area bs w : List ℕ} {slot : Option View} {cell : Cell ℕ} → SlotHolds area bs slot cell → CellLeaf w cell → SlotView area bs w slot cell
 slot_view empty l = elim l [ ]
 slot_view (held {v} {a} h) (leaf l) = record { view = v; array = a; slot_is = refl; cell_is = refl; holds = h; leaf_is = l }
 
@@ -101,28 +99,28 @@ pub record CellArray (area bs : List ℕ) (view : View) (cell : Cell ℕ) : Type
   pub cell_is : cell ≡ some array
   pub holds : Holds area bs view array
 
-pub slot_cell : {area bs : List ℕ} {view : View} {slot : Slot} {cell : Cell ℕ} → slot ≡ Held view → SlotHolds area bs slot cell → CellArray area bs view cell
+pub slot_cell : {area bs : List ℕ} {view : View} {slot : Option View} {cell : Cell ℕ} → slot ≡ Some view → SlotHolds area bs slot cell → CellArray area bs view cell
 slot_cell e empty = absurd (let z : ◌≡◌ {A = ℕ} 0 1 = cc in omega arith)
 slot_cell {area} {bs} {view} e (held {v} {a} h) =
     let same : v ≡ view = cc in
     record { array = a; cell_is = refl; holds = subst (λ x. Holds area bs x a) same h }
 
 -- an element that is there, whatever stands for one that is not
-pub get_d_any : (xs : List Slot) (k : ℕ) (d e : Slot) → k < length xs → get_or xs k d ≡ get_or xs k e
+pub get_d_any : (xs : List (Option View)) (k : ℕ) (d e : Option View) → k < length xs → get_or xs k d ≡ get_or xs k e
 get_d_any [] k d e h = absurd (omega arith)
 get_d_any (x ∷ xs) zero d e h = refl
 get_d_any (x ∷ xs) (suc k) d e h = get_d_any xs k d e (omega arith)
 
-no_held : {view : View} → Held view ≡ Empty → ⊥
+no_held : {view : View} → Some view ≡ None → ⊥
 no_held e = let z : ◌≡◌ {A = ℕ} 0 1 = cc in omega arith
 
 -- a name that has numbers is one of the table's
-pub name_view : {table : List Slot} {area bs w : List ℕ} {k : ℕ} → (q : NameReady table area bs w k) → SlotView area bs w (get_or table k Empty) (get_or q.names k none)
+pub name_view : {table : List (Option View)} {area bs w : List ℕ} {k : ℕ} → (q : NameReady table area bs w k) → SlotView area bs w (get_or table k None) (get_or q.names k none)
 name_view {k = k} q = slot_view (q.tabled.each k) q.leaf
 
-pub name_below : {table : List Slot} {area bs w : List ℕ} {k : ℕ} → NameReady table area bs w k → k < length table
+pub name_below : {table : List (Option View)} {area bs w : List ℕ} {k : ℕ} → NameReady table area bs w k → k < length table
 name_below {table} {k = k} q =
-    ⊎_elim (λ l. l) (λ l. absurd (no_held (sym (name_view q).slot_is ∙ get_or_past table k Empty l))) (cases_lt k (length table))
+    ⊎_elim (λ l. l) (λ l. absurd (no_held (sym (name_view q).slot_is ∙ get_or_past table k None l))) (cases_lt k (length table))
 
 -- ---- inputs
 given_map : (f : ℕ → Array ℕ) (xs : List ℕ) (k : ℕ) → k < length xs → given (map f xs) k ≡ some (f (get_or xs k 0))

@@ -1,5 +1,5 @@
 -- Blocks of a tree from those of its operands, by the step that is read at its node.
-use Rattle.std.proofs.Common.{◌≡◌, ℕ, ◌+◌, ◌-◌, ◌*◌, ◌<◌, ◌≤◌, max, List, [], ◌∷◌, length, get_or, sym, refl, subst, mul-le-mul_right, add-mul, mul-le-mul_left, one-mul, arith}
+use Rattle.std.proofs.Common.{◌≡◌, ℕ, ◌+◌, ◌-◌, ◌*◌, ◌<◌, ◌≤◌, max, List, [], ◌∷◌, length, get_or, sym, refl, subst, mul-le-mul_right, add-mul, mul-le-mul_left, one-mul, arith, Option}
 use lib.Ieee.{Float}
 use Rattle.semantics.specs.declared.operation.Unary.{Unary}
 use Rattle.semantics.specs.declared.operation.Binary.{Binary}
@@ -15,7 +15,7 @@ use Rattle.program.specs.Words.{steps_in, At}
 use Rattle.program.specs.Spelling.{spell}
 use Rattle.program.specs.Standing.{steps_from, Skips, View, is_name, is_input, is_constant, is_count, is_each, is_both, is_choose, is_fold, is_scan, is_shape, is_turn, is_part, is_join, is_rows}
 use Rattle.program.proofs.Nodes.{expr_view, expr_there, expr_further}
-use Rattle.kernels.specs.declared.slot.Slot.{Slot}
+use Rattle.views.specs.declared.view.View.{View as Slot-view}
 use Rattle.kernels.specs.Blocks.{StandFor, Applied, Joined, Chosen}
 use Rattle.kernels.specs.Trees.{tree, CellLeaf, Leaves}
 use Rattle.kernels.specs.declared.cost.Cost.{Cost}
@@ -54,19 +54,19 @@ behind : (many spare b : ℕ) → (1 + b) * many ≤ spare → (many ≤ spare) 
 behind many spare b h = let e = add-mul 1 b many in let f = one-mul many in (omega arith, omega arith)
 
 -- a later operand gets a block of its own, and what is left behind it
-pub record AbleBehind (ws : List ℕ) (j : ℕ) (table : List Slot) (area bs w : List ℕ) (many spare : ℕ) : Type 0 where
+pub record AbleBehind (ws : List ℕ) (j : ℕ) (table : List (Option Slot-view)) (area bs w : List ℕ) (many spare : ℕ) : Type 0 where
   pub block : many ≤ spare
   pub able : Able ws j table area bs w many (spare - many)
 
-pub able_same : {ws : List ℕ} {i : ℕ} {table : List Slot} {area bs w : List ℕ} {many spare n m : ℕ} → Able ws i table area bs w many spare → many ≡ n → spare ≡ m → Able ws i table area bs w n m
+pub able_same : {ws : List ℕ} {i : ℕ} {table : List (Option Slot-view)} {area bs w : List ℕ} {many spare n m : ℕ} → Able ws i table area bs w many spare → many ≡ n → spare ≡ m → Able ws i table area bs w n m
 able_same {ws} {i} {table} {area} {bs} {w} {many} {spare} {n} {m} a e f =
     subst (λ k. Able ws i table area bs w n k) f (subst (λ k. Able ws i table area bs w k spare) e a)
 
-pub ready_there : {ws : List ℕ} {i : ℕ} {table : List Slot} {area bs w : List ℕ} → length (steps_in ws) ≤ i → Ready ws i table area bs w → ⊥
+pub ready_there : {ws : List ℕ} {i : ℕ} {table : List (Option Slot-view)} {area bs w : List ℕ} → length (steps_in ws) ≤ i → Ready ws i table area bs w → ⊥
 ready_there {ws} {i} l q = omega (arith, expr_there ws i q.expr q.rest q.enc)
 
 -- ---- by the step that is read
-module _ {ws : List ℕ} {i : ℕ} {x : Step} (at : At ws i x) {table : List Slot} {area bs w : List ℕ} where
+module _ {ws : List ℕ} {i : ℕ} {x : Step} (at : At ws i x) {table : List (Option Slot-view)} {area bs w : List ℕ} where
   view : {s : Step} → x ≡ s → (q : Ready ws i table area bs w) → View q.rest (steps_from ws (i + 1)) q.expr s
   view {s} is q = expr_view ws i x at s is q.expr q.rest q.enc
 
@@ -288,15 +288,15 @@ module _ {ws : List ℕ} {i : ℕ} {x : Step} (at : At ws i x) where
       go : {e : Expr ℕ} {r : List Step} → View r (steps_from ws (i + 1)) e Choose → steps_from ws l ≡ r
       go (is_choose p) = u.on _ _ (t.on _ _ (s.on _ _ p))
 
-pub able_further : {ws : List ℕ} {i j : ℕ} {table : List Slot} {area bs w : List ℕ} → Ready ws i table area bs w → Skips ws i j → i < j
+pub able_further : {ws : List ℕ} {i j : ℕ} {table : List (Option Slot-view)} {area bs w : List ℕ} → Ready ws i table area bs w → Skips ws i j → i < j
 able_further {ws} {i} {j} q s = expr_further ws i j q.expr q.rest q.enc (s.on q.expr q.rest q.enc)
 
 -- the same over an area that has the same words
-abbrev pub ready_same : {ws : List ℕ} {i : ℕ} {table : List Slot} {area new bs w : List ℕ} → area ≡ new → Ready ws i table area bs w → Ready ws i table new bs w
+abbrev pub ready_same : {ws : List ℕ} {i : ℕ} {table : List (Option Slot-view)} {area new bs w : List ℕ} → area ≡ new → Ready ws i table area bs w → Ready ws i table new bs w
 ready_same {table = table} {bs = bs} e q =
     record { names = q.names; tabled = subst (λ a. Tabled a bs table q.names) e q.tabled; expr = q.expr; rest = q.rest; enc = q.enc; leaves = q.leaves }
 
-pub block_able : {ws : List ℕ} {i : ℕ} {table : List Slot} {area bs w : List ℕ} {r : Cost} {len many spare : ℕ} → Ready ws i table area bs w → Costs ws i r → r.blocks * len ≤ 4096 → many ≤ len → 4096 ≤ spare → Able ws i table area bs w many spare
+pub block_able : {ws : List ℕ} {i : ℕ} {table : List (Option Slot-view)} {area bs w : List ℕ} {r : Cost} {len many spare : ℕ} → Ready ws i table area bs w → Costs ws i r → r.blocks * len ≤ 4096 → many ≤ len → 4096 ≤ spare → Able ws i table area bs w many spare
 block_able {r = r} {len} {many} {spare} q c fits few room =
     let same = c.needs q.expr q.rest q.enc in
     record { ready = q; room = subst (λ b. b * many ≤ spare) same (omega (arith, mul-le-mul_left r.blocks few)) }

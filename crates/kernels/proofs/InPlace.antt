@@ -1,5 +1,5 @@
 -- Operands that are read where they lie.
-use Rattle.std.proofs.Common.{◌≡◌, ℕ, ◌+◌, ◌-◌, ◌*◌, ◌/◌, ◌%◌, ◌^◌, ◌<◌, ◌≤◌, List, [], ◌∷◌, ◌++◌, length, get_or, take, drop, pos, sym, refl, ap, ◌∙◌, subst, mod-eq_of_lt, mul-one, arith, get_or-take}
+use Rattle.std.proofs.Common.{◌≡◌, ℕ, ◌+◌, ◌-◌, ◌*◌, ◌/◌, ◌%◌, ◌^◌, ◌<◌, ◌≤◌, List, [], ◌∷◌, ◌++◌, length, get_or, take, drop, pos, sym, refl, ap, ◌∙◌, subst, mod-eq_of_lt, mul-one, arith, get_or-take, Option, Some, None}
 use lib.Ieee.{Float}
 use Rattle.std.proofs.lemmas.List.{length-take-le, take_more}
 use Rattle.semantics.specs.declared.operation.Binary.{Binary}
@@ -24,8 +24,6 @@ use Rattle.views.specs.declared.view.View.{View}
 use Rattle.views.specs.Views.{Holds}
 use Rattle.views.specs.Copying.{Walk}
 use Rattle.views.proofs.Copies.{run_ends}
-use Rattle.kernels.specs.declared.slot.Slot.{Slot}
-use Rattle.kernels.specs.declared.slot.Slot.TheVariants.{Empty, Held}
 use Rattle.kernels.specs.declared.operand.Operand.{Operand}
 use Rattle.kernels.specs.declared.operand.Operand.TheVariants.{Own, Words, Bytes}
 use Rattle.kernels.specs.Blocks.{at}
@@ -112,8 +110,8 @@ row_shift {area} {bs} {v} {many} {o} t d first one h short r =
     }
 
 -- ---- the tree at a node is one name
-module _ {ws : List ℕ} {i : ℕ} {x : Step} (at-step : At ws i x) {table : List Slot} {area bs w : List ℕ} {first : ℕ} where
-  pub name_run : {many k : ℕ} {v : View} {o : Operand} → x ≡ Name k → get_or table k Empty ≡ Held v → ViewRun area bs v w first many o → FoundRun ws i table area bs w first many o
+module _ {ws : List ℕ} {i : ℕ} {x : Step} (at-step : At ws i x) {table : List (Option View)} {area bs w : List ℕ} {first : ℕ} where
+  pub name_run : {many k : ℕ} {v : View} {o : Operand} → x ≡ Name k → get_or table k None ≡ Some v → ViewRun area bs v w first many o → FoundRun ws i table area bs w first many o
   unfolding tree
   name_run {many} {k} {v} {o} is held r =
       record {
@@ -139,12 +137,12 @@ module _ {ws : List ℕ} {i : ℕ} {x : Step} (at-step : At ws i x) {table : Lis
           (g.each (record { names = q.names; tabled = q.tabled; expr = z; rest = q.rest; enc = s.on y _ p; leaves = l.1 }) k low)
 
 -- a block that has a tree's numbers, and a run
-pub own_gives : {ws : List ℕ} {i : ℕ} {table : List Slot} {area bs w : List ℕ} {first : ℕ} {old : List Float} → Filled ws i table area bs w first old → GivesTree ws i table area bs w first Own old
+pub own_gives : {ws : List ℕ} {i : ℕ} {table : List (Option View)} {area bs w : List ℕ} {first : ℕ} {old : List Float} → Filled ws i table area bs w first old → GivesTree ws i table area bs w first Own old
 own_gives f = record { each = λ q k l. (f.stand q).each k l }
 
-pub run_gives : {ws : List ℕ} {i : ℕ} {table : List Slot} {area bs w : List ℕ} {first many : ℕ} {o : Operand} {old : List Float} → FoundRun ws i table area bs w first many o → (o ≡ Own → ⊥) → length old ≡ many → GivesTree ws i table area bs w first o old
+pub run_gives : {ws : List ℕ} {i : ℕ} {table : List (Option View)} {area bs w : List ℕ} {first many : ℕ} {o : Operand} {old : List Float} → FoundRun ws i table area bs w first many o → (o ≡ Own → ⊥) → length old ≡ many → GivesTree ws i table area bs w first o old
 run_gives {old = old} r n e = record { each = λ q k l. r.gives n q k (subst (λ m. k < m) e l) (at old k) }
 
 -- with room to spare
-pub able_whole : {ws : List ℕ} {j : ℕ} {table : List Slot} {area bs w : List ℕ} {many spare : ℕ} → AbleBehind ws j table area bs w many spare → Able ws j table area bs w many spare
+pub able_whole : {ws : List ℕ} {j : ℕ} {table : List (Option View)} {area bs w : List ℕ} {many spare : ℕ} → AbleBehind ws j table area bs w many spare → Able ws j table area bs w many spare
 able_whole b = record { ready = b.able.ready; room = omega (arith, b.able.room) }

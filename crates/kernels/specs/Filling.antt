@@ -1,5 +1,5 @@
 -- What is needed to fill a block with the numbers of a tree, and what the block then has.
-use Rattle.std.specs.Prelude.{◌≡◌, ℕ, ◌+◌, ◌*◌, ◌<◌, ◌≤◌, max, List, length, take, drop, slice_index, slice_index_or, Float}
+use Rattle.std.specs.Prelude.{◌≡◌, ℕ, ◌+◌, ◌*◌, ◌<◌, ◌≤◌, max, List, length, take, drop, slice_index, slice_index_or, Float, Option, Some, None}
 use Rattle.semantics.specs.Shapes.{size, unflat, up_to}
 use Rattle.semantics.specs.Programs.{numbers_at}
 use Rattle.encoding.specs.Words.{written}
@@ -13,21 +13,19 @@ use Rattle.program.specs.Standing.{steps_from, Skips}
 use Rattle.views.specs.declared.view.View.{View}
 use Rattle.views.specs.Views.{Holds}
 use Rattle.kernels.specs.declared.cost.Cost.{Cost}
-use Rattle.kernels.specs.declared.slot.Slot.{Slot}
-use Rattle.kernels.specs.declared.slot.Slot.TheVariants.{Empty, Held}
 use Rattle.kernels.specs.Blocks.{StandFor}
 use Rattle.kernels.specs.Trees.{tree, cell_number, CellLeaf, Leaves, Fusable}
 
 -- a slot stands for what a name has
-pub data SlotHolds (area bs : List ℕ) : Slot → Cell ℕ → Type 0 where
-  empty : SlotHolds area bs Empty none
-  held : {v : View} {a : Array ℕ} → Holds area bs v a → SlotHolds area bs (Held v) (some a)
+pub data SlotHolds (area bs : List ℕ) : Option View → Cell ℕ → Type 0 where
+  empty : SlotHolds area bs None none
+  held : {v : View} {a : Array ℕ} → Holds area bs v a → SlotHolds area bs (Some v) (some a)
 
-pub record Tabled (area bs : List ℕ) (table : List Slot) (ns : List (Cell ℕ)) : Type 0 where
-  pub each : (k : ℕ) → SlotHolds area bs (slice_index_or table k Empty) (slice_index_or ns k none)
+pub record Tabled (area bs : List ℕ) (table : List (Option View)) (ns : List (Cell ℕ)) : Type 0 where
+  pub each : (k : ℕ) → SlotHolds area bs (slice_index_or table k None) (slice_index_or ns k none)
 
 -- name k, or input k, has numbers that are broadcast to w
-pub record NameReady (table : List Slot) (area bs w : List ℕ) (k : ℕ) : Type 0 where
+pub record NameReady (table : List (Option View)) (area bs w : List ℕ) (k : ℕ) : Type 0 where
   pub names : List (Cell ℕ)
   pub tabled : Tabled area bs table names
   pub leaf : CellLeaf w (slice_index_or names k none)
@@ -40,7 +38,7 @@ pub record CellFilled (w : List ℕ) (first : ℕ) (out : List Float) (cell : Ce
   pub stand : StandFor out (λ k. cell_number cell (unflat w (first + k)))
 
 -- at node i stands a tree whose leaves are there, and are broadcast to w
-pub record Ready (ws : List ℕ) (i : ℕ) (table : List Slot) (area bs w : List ℕ) : Type 0 where
+pub record Ready (ws : List ℕ) (i : ℕ) (table : List (Option View)) (area bs w : List ℕ) : Type 0 where
   pub names : List (Cell ℕ)
   pub tabled : Tabled area bs table names
   pub expr : Expr ℕ
@@ -49,7 +47,7 @@ pub record Ready (ws : List ℕ) (i : ℕ) (table : List Slot) (area bs w : List
   pub leaves : Leaves (inputs_of bs) names w expr
 
 -- a block has the numbers of the tree at node i, from place `first` on
-pub record Filled (ws : List ℕ) (i : ℕ) (table : List Slot) (area bs w : List ℕ) (first : ℕ) (out : List Float) : Type 0 where
+pub record Filled (ws : List ℕ) (i : ℕ) (table : List (Option View)) (area bs w : List ℕ) (first : ℕ) (out : List Float) : Type 0 where
   pub stand : (q : Ready ws i table area bs w) → StandFor out (λ k. tree (inputs_of bs) q.names q.expr (unflat w (first + k)))
 
 -- how many blocks a tree needs besides its own
@@ -70,7 +68,7 @@ blocks (join x e f) = 0
 blocks (rows e f) = 0
 
 -- a tree that is ready, with room for its blocks of so many numbers in a spare slice
-pub record Able (ws : List ℕ) (i : ℕ) (table : List Slot) (area bs w : List ℕ) (many spare : ℕ) : Type 0 where
+pub record Able (ws : List ℕ) (i : ℕ) (table : List (Option View)) (area bs w : List ℕ) (many spare : ℕ) : Type 0 where
   pub ready : Ready ws i table area bs w
   pub room : blocks ready.expr * many ≤ spare
 
@@ -92,13 +90,13 @@ pub record Shallow (ws : List ℕ) (i : ℕ) : Type 0 where
   pub few : (e : Expr ℕ) (r : List Step) → steps_from ws i ≡ spell e r → blocks e ≤ 4096
 
 -- so many numbers of a tree, from place `first` on, stand at their words; all other words are as they were
-pub record PartStored (ws : List ℕ) (i : ℕ) (table : List Slot) (bs w : List ℕ) (to first many : ℕ) (old new : List ℕ) : Type 0 where
+pub record PartStored (ws : List ℕ) (i : ℕ) (table : List (Option View)) (bs w : List ℕ) (to first many : ℕ) (old new : List ℕ) : Type 0 where
   pub before : take (to + first) new ≡ take (to + first) old
   pub behind : drop (to + first + many) new ≡ drop (to + first + many) old
   pub each : (q : Ready ws i table (take to old) bs w) (n : ℕ) → n < many → slice_index new (to + first + n) ≡ tree (inputs_of bs) q.names q.expr (unflat w (first + n))
 
 -- the numbers of a tree stand rows first from word `to` on; all other words are as they were
-pub record Stored (ws : List ℕ) (i : ℕ) (table : List Slot) (bs w : List ℕ) (to : ℕ) (old new : List ℕ) : Type 0 where
+pub record Stored (ws : List ℕ) (i : ℕ) (table : List (Option View)) (bs w : List ℕ) (to : ℕ) (old new : List ℕ) : Type 0 where
   pub before : take to new ≡ take to old
   pub behind : drop (to + size w) new ≡ drop (to + size w) old
   pub each : (q : Ready ws i table (take to old) bs w) (n : ℕ) → n < size w → slice_index new (to + n) ≡ tree (inputs_of bs) q.names q.expr (unflat w n)
@@ -109,12 +107,12 @@ unfolding tree
 tree_array ins ns e w = record { shape = w; at = λ is. tree ins ns e is }
 
 -- so many numbers of a tree, from place `first` on, stand as bytes behind those before them; all other bytes are as they were
-pub record BlockShown (ws : List ℕ) (i : ℕ) (table : List Slot) (area bs w : List ℕ) (first index many : ℕ) (old new : List ℕ) : Type 0 where
+pub record BlockShown (ws : List ℕ) (i : ℕ) (table : List (Option View)) (area bs w : List ℕ) (first index many : ℕ) (old new : List ℕ) : Type 0 where
   pub list : List ℕ
   pub long : length list ≡ many
   pub bytes : new ≡ written old (index + 8 * first) (number_bytes list)
   pub each : (q : Ready ws i table area bs w) (n : ℕ) → n < length list → slice_index list n ≡ tree (inputs_of bs) q.names q.expr (unflat w (first + n))
 
 -- the first so many numbers of a tree stand as bytes at an index; all other bytes are as they were
-pub record Shown (ws : List ℕ) (i : ℕ) (table : List Slot) (area bs w : List ℕ) (index many : ℕ) (old new : List ℕ) : Type 0 where
+pub record Shown (ws : List ℕ) (i : ℕ) (table : List (Option View)) (area bs w : List ℕ) (index many : ℕ) (old new : List ℕ) : Type 0 where
   pub shown : (q : Ready ws i table area bs w) → new ≡ written old index (number_bytes (numbers_at (tree_array (inputs_of bs) q.names q.expr w) (up_to 0 many)))

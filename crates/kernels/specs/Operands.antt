@@ -1,5 +1,5 @@
 -- Operands that are read where they lie, with no block of their own.
-use Rattle.std.specs.Prelude.{◌≡◌, ℕ, ◌+◌, ◌*◌, ◌<◌, ◌≤◌, List, length, ◌≢◌, slice_index, Float}
+use Rattle.std.specs.Prelude.{◌≡◌, ℕ, ◌+◌, ◌*◌, ◌<◌, ◌≤◌, List, length, ◌≢◌, slice_index, Float, Option}
 use Rattle.semantics.specs.declared.operation.Binary.{Binary}
 use Rattle.semantics.specs.Shapes.{size, unflat}
 use Rattle.semantics.specs.Arrays.{Array}
@@ -13,7 +13,6 @@ use Rattle.numbers.specs.Standing.{StandsFor}
 use Rattle.program.specs.Standing.{Skips}
 use Rattle.views.specs.declared.view.View.{View}
 use Rattle.views.specs.Views.{Good, Packed, Reaches, Holds}
-use Rattle.kernels.specs.declared.slot.Slot.{Slot}
 use Rattle.kernels.specs.declared.operand.Operand.{Operand}
 use Rattle.kernels.specs.declared.operand.Operand.TheVariants.{Own, Words, Bytes}
 use Rattle.kernels.specs.Blocks.{at}
@@ -53,11 +52,11 @@ pub record ViewRun (area bs : List ℕ) (v : View) (w : List ℕ) (first many : 
   pub gives : (o ≢ Own) → (a : Array ℕ) → Holds area bs v a → (k : ℕ) → k < many → (x : Float) → Gives o area bs k x (cell_number (some a) (unflat w (first + k)))
 
 -- the numbers of the tree at node i, from place `first` on, if the tree is one name
-pub record FoundRun (ws : List ℕ) (i : ℕ) (table : List Slot) (area bs w : List ℕ) (first many : ℕ) (o : Operand) : Type 0 where
+pub record FoundRun (ws : List ℕ) (i : ℕ) (table : List (Option View)) (area bs w : List ℕ) (first many : ℕ) (o : Operand) : Type 0 where
   pub skips : (o ≢ Own) → Skips ws i (i + 1)
   pub readable : (o ≢ Own) → (k : ℕ) → k < many → Readable o area bs k
   pub gives : (o ≢ Own) → (q : Ready ws i table area bs w) (k : ℕ) → k < many → (x : Float) → Gives o area bs k x (tree (inputs_of bs) q.names q.expr (unflat w (first + k)))
 
 -- an operand has the numbers of the tree at node i; old is what the block has
-pub record GivesTree (ws : List ℕ) (i : ℕ) (table : List Slot) (area bs w : List ℕ) (first : ℕ) (o : Operand) (old : List Float) : Type 0 where
+pub record GivesTree (ws : List ℕ) (i : ℕ) (table : List (Option View)) (area bs w : List ℕ) (first : ℕ) (o : Operand) (old : List Float) : Type 0 where
   pub each : (q : Ready ws i table area bs w) (k : ℕ) → k < length old → Gives o area bs k (at old k) (tree (inputs_of bs) q.names q.expr (unflat w (first + k)))

@@ -2,15 +2,15 @@
 ghost use Rattle.std.specs.Prelude.{◌≡◌, length};
 ghost use Rattle.kernels.specs.Blocks.{Applied, Joined, Chosen, ChosenFloat};
 
-use crate::operators::*;
+use numbers::operators::*;
 use numbers::truth_of;
 use semantics::operation::{Binary, Unary};
 
 fn apply_one<O: OnOne>(block: &mut [f64])
     ensures { Applied O.OnOne.name block.old block.new }
 {
-    for k in 0..block.len() {
-        block[k] = O::apply(block[k]);
+    for x in block.iter_mut() {
+        *x = O::apply(*x);
     }
 }
 
@@ -18,8 +18,8 @@ fn apply_two<O: OnTwo>(left: &mut [f64], right: &[f64])
     requires { length right.now ≡ length left.old }
     ensures { Joined O.OnTwo.name left.old right.now left.new }
 {
-    for k in 0..left.len() {
-        left[k] = O::apply(left[k], right[k]);
+    for (k, x) in left.iter_mut().enumerate() {
+        *x = O::apply(*x, right[k]);
     }
 }
 
@@ -27,6 +27,7 @@ fn apply_two<O: OnTwo>(left: &mut [f64], right: &[f64])
 pub fn apply_unary(op: Unary, block: &mut [f64])
     ensures { Applied op block.old block.new }
 {
+    // Stays: the match on the operation is outside of the loop.
     match op {
         Unary::Neg => apply_one::<Negation>(block),
         Unary::Abs => apply_one::<Absolute>(block),
@@ -41,6 +42,7 @@ pub fn apply_binary(op: Binary, left: &mut [f64], right: &[f64])
     requires { length right.now ≡ length left.old }
     ensures { Joined op left.old right.now left.new }
 {
+    // Stays: the match on the operation is outside of the loop.
     match op {
         Binary::Add => apply_two::<Sum>(left, right),
         Binary::Sub => apply_two::<Difference>(left, right),
@@ -65,7 +67,7 @@ pub fn choose_blocks(block: &mut [f64], left: &[f64], right: &[f64])
     requires right { length right.now ≡ length block.old }
     ensures { Chosen block.old left.now right.now block.new }
 {
-    for k in 0..block.len() {
-        block[k] = choose_float(block[k], left[k], right[k]);
+    for (k, x) in block.iter_mut().enumerate() {
+        *x = choose_float(*x, left[k], right[k]);
     }
 }

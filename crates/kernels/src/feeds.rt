@@ -6,13 +6,14 @@ ghost use Rattle.kernels.specs.Operands.{Readable, Fed};
 
 use crate::rows::word_at;
 use numbers::plain_float;
+use views::lent::Lent;
 
 pub trait Feed {
     ghost operand: { ℕ → Operand };
 
-    fn get(area: &[u64], bytes: &[u8], place: usize, k: usize, own: f64) -> f64
-        requires { Readable (operand place) area.now bytes.now k }
-        ensures { Fed (operand place) area.now bytes.now k own result };
+    fn get(lent: Lent, place: usize, k: usize, own: f64) -> f64
+        requires { Readable (operand place) lent.area.now lent.bytes.now k }
+        ensures { Fed (operand place) lent.entry.area.now lent.entry.bytes.now k own result };
 }
 
 pub struct FromBlock;
@@ -20,7 +21,7 @@ pub struct FromBlock;
 impl Feed for FromBlock {
     ghost operand = { λ _. Own };
 
-    fn get(_area: &[u64], _bytes: &[u8], _place: usize, _k: usize, own: f64) -> f64 {
+    fn get(_lent: Lent, _place: usize, _k: usize, own: f64) -> f64 {
         own
     }
 }
@@ -30,8 +31,8 @@ pub struct FromWords;
 impl Feed for FromWords {
     ghost operand = { λ p. Words p };
 
-    fn get(area: &[u64], _bytes: &[u8], place: usize, k: usize, _own: f64) -> f64 {
-        plain_float(area[place + k])
+    fn get(lent: Lent, place: usize, k: usize, _own: f64) -> f64 {
+        plain_float(lent.area[place + k])
     }
 }
 
@@ -40,7 +41,7 @@ pub struct FromBytes;
 impl Feed for FromBytes {
     ghost operand = { λ p. Bytes p };
 
-    fn get(_area: &[u64], bytes: &[u8], place: usize, k: usize, _own: f64) -> f64 {
-        plain_float(word_at(bytes, place + 8 * k))
+    fn get(lent: Lent, place: usize, k: usize, _own: f64) -> f64 {
+        plain_float(word_at(lent.bytes, place + 8 * k))
     }
 }

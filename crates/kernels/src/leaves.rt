@@ -14,24 +14,25 @@ ghost use Rattle.kernels.specs.Blocks.{StandFor};
 ghost use Rattle.kernels.specs.Trees.{CellLeaf};
 ghost use Rattle.kernels.specs.Filling.{Tabled, NameReady, InputReady, CellFilled};
 
+use crate::env::Env;
 use crate::rows::{fill_with, read_row, row_at};
-use crate::slot::Slot;
 use encoding::inputs::find_input;
 use encoding::shape::Shape;
 use numbers::{float_of, whole_float};
 use views::broadcast::broadcast;
+use views::lent::Lent;
 use views::place::number_at;
 use views::reshape::is_packed;
 use views::view::View;
 use views::whole::of_input;
 
 // The numbers of a view, row after row.
-fn fill_rows(view: &View, area: &[u64], bytes: &[u8], first: usize, out: &mut [f64])
+fn fill_rows(view: &View, lent: Lent, first: usize, out: &mut [f64])
     requires good { Good view.now }
-    requires there { Reaches view.now.source area.now bytes.now view.now.high }
+    requires there { Reaches view.now.source lent.area.now lent.bytes.now view.now.high }
     requires within { first + length out.old ≤ size (shape_of view.now.shape) }
     requires short { first + length out.old < 2 ^ 64 }
-    ensures { StandFor out.new (λ k. seen area.now bytes.now view.now (unflat (shape_of view.now.shape) (first + k))) }
+    ensures { StandFor out.new (λ k. seen lent.entry.area.now lent.entry.bytes.now view.now (unflat (shape_of view.now.shape) (first + k))) }
 {
     let mut done = 0;
     while done < out.len() {
@@ -39,8 +40,7 @@ fn fill_rows(view: &View, area: &[u64], bytes: &[u8], first: usize, out: &mut [f
         let count = row.left.min(out.len() - done);
         read_row(
             view.source,
-            area,
-            bytes,
+            lent,
             row.from,
             row.stride,
             &mut out[done..done + count],
@@ -50,110 +50,70 @@ fn fill_rows(view: &View, area: &[u64], bytes: &[u8], first: usize, out: &mut [f
 }
 
 // The numbers of a view, row after row; with no gaps between its rows, they are one.
-pub fn fill_view(view: &View, area: &[u64], bytes: &[u8], first: usize, out: &mut [f64])
+pub fn fill_view(view: &View, lent: Lent, first: usize, out: &mut [f64])
     requires good { Good view.now }
-    requires there { Reaches view.now.source area.now bytes.now view.now.high }
+    requires there { Reaches view.now.source lent.area.now lent.bytes.now view.now.high }
     requires within { first + length out.old ≤ size (shape_of view.now.shape) }
     requires short { first + length out.old < 2 ^ 64 }
-    ensures { StandFor out.new (λ k. seen area.now bytes.now view.now (unflat (shape_of view.now.shape) (first + k))) }
+    ensures { StandFor out.new (λ k. seen lent.entry.area.now lent.entry.bytes.now view.now (unflat (shape_of view.now.shape) (first + k))) }
 {
     if out.len() == 0 {
         return;
     }
     if is_packed(*view) {
-        read_row(view.source, area, bytes, view.start + first, 1, out);
+        read_row(view.source, lent, view.start + first, 1, out);
         return;
     }
-    fill_rows(view, area, bytes, first, out);
-}
-
-// Whether two shapes have the same lengths.
-pub(crate) fn same_shape(s: Shape, t: Shape) -> bool
-    ensures { result ≡ true → shape_of s ≡ shape_of t }
-{
-    if s.rank != t.rank {
-        return false;
-    }
-    for k in 0..s.rank {
-        if s.lens[k] != t.lens[k] {
-            return false;
-        }
-    }
-    true
+    fill_rows(view, lent, first, out);
 }
 
 // The numbers of a view that is broadcast to a shape. One of the shape itself, or with a single number, needs no
 // other strides.
-fn fill_broadcast(
-    view: View,
-    area: &[u64],
-    bytes: &[u8],
-    shape: Shape,
-    first: usize,
-    out: &mut [f64],
-)
+fn fill_broadcast(view: View, env: &Env, first: usize, out: &mut [f64])
     requires good { Good view }
-    requires there { Reaches view.source area.now bytes.now view.high }
-    requires spread { Spread (shape_of view.shape) (shape_of shape) }
-    requires within { first + length out.old ≤ size (shape_of shape) }
+    requires there { Reaches view.source env.now.lent.area.now env.now.lent.bytes.now view.high }
+    requires spread { Spread (shape_of view.shape) (shape_of env.now.shape) }
+    requires within { first + length out.old ≤ size (shape_of env.now.shape) }
     requires short { first + length out.old < 2 ^ 64 }
-    ensures { (a : Array ℕ) → Holds area.now bytes.now view a → CellFilled (shape_of shape) first out.new (some a) }
+    ensures { (a : Array ℕ) → Holds env.now.lent.area.now env.now.lent.bytes.now view a → CellFilled (shape_of env.now.shape) first out.new (some a) }
 {
-    if same_shape(view.shape, shape) {
-        fill_view(&view, area, bytes, first, out);
+    if view.shape == env.shape {
+        fill_view(&view, env.lent, first, out);
         return;
     }
     if view.shape.rank == 0 {
-        fill_with(
-            float_of(number_at(view.source, area, bytes, view.start)),
-            out,
-        );
+        let x = number_at(view.source, env.lent, view.start);
+        fill_with(float_of(x), out);
         return;
     }
-    let wide = broadcast(view, shape);
-    fill_view(&wide, area, bytes, first, out);
+    let wide = broadcast(view, env.shape);
+    fill_view(&wide, env.lent, first, out);
 }
 
 // The numbers of a name.
-pub fn fill_name(
-    names: &[Slot; 64],
-    name: u32,
-    area: &[u64],
-    bytes: &[u8],
-    shape: Shape,
-    first: usize,
-    out: &mut [f64],
-)
-    requires ready { NameReady names.now area.now bytes.now (shape_of shape) name }
-    requires within { first + length out.old ≤ size (shape_of shape) }
+pub fn fill_name(env: &Env, name: u32, first: usize, out: &mut [f64])
+    requires ready { NameReady env.now.names.now env.now.lent.area.now env.now.lent.bytes.now (shape_of env.now.shape) name }
+    requires within { first + length out.old ≤ size (shape_of env.now.shape) }
     requires short { first + length out.old < 2 ^ 64 }
-    ensures { (ns : List (Cell ℕ)) → Tabled area.now bytes.now names.now ns → CellFilled (shape_of shape) first out.new (slice_index_or ns name none) }
+    ensures { (ns : List (Cell ℕ)) → Tabled env.now.lent.area.now env.now.lent.bytes.now env.now.names.now ns → CellFilled (shape_of env.now.shape) first out.new (slice_index_or ns name none) }
 {
-    let slot = names[name as usize];
-    let Slot::Held(view) = slot else {
+    let Some(view) = &env.names[name as usize] else {
         return unreachable();
     };
-    fill_broadcast(view, area, bytes, shape, first, out);
+    fill_broadcast(*view, env, first, out);
 }
 
 // The numbers of an input, where they are.
-pub fn fill_input(
-    input: u32,
-    area: &[u64],
-    bytes: &[u8],
-    shape: Shape,
-    first: usize,
-    out: &mut [f64],
-)
-    requires ready { InputReady bytes.now (shape_of shape) input }
-    requires within { first + length out.old ≤ size (shape_of shape) }
+pub fn fill_input(env: &Env, input: u32, first: usize, out: &mut [f64])
+    requires ready { InputReady env.now.lent.bytes.now (shape_of env.now.shape) input }
+    requires within { first + length out.old ≤ size (shape_of env.now.shape) }
     requires short { first + length out.old < 2 ^ 64 }
-    ensures { CellFilled (shape_of shape) first out.new (given (inputs_of bytes.now) input) }
+    ensures { CellFilled (shape_of env.now.shape) first out.new (given (inputs_of env.now.lent.bytes.now) input) }
 {
-    let Some(head) = find_input(bytes, input as usize) else {
+    let Some(head) = find_input(env.lent.bytes, input as usize) else {
         return unreachable();
     };
-    fill_broadcast(of_input(head), area, bytes, shape, first, out);
+    fill_broadcast(of_input(head), env, first, out);
 }
 
 // The index behind an index, round after the last.
@@ -180,8 +140,8 @@ pub fn fill_count(many: u32, shape: Shape, first: usize, out: &mut [f64])
     }
     let len = shape.lens[shape.rank - 1] as usize;
     let mut index = first % len;
-    for i in 0..out.len() {
-        out[i] = whole_float(index as u64);
+    for x in out.iter_mut() {
+        *x = whole_float(index as u64);
         index = next_index(index, len);
     }
 }

@@ -4,15 +4,14 @@
 pub mod blocks;
 pub mod combining;
 pub mod cost;
+pub mod env;
 mod feeds;
 pub mod laws;
 pub mod leaves;
 pub mod operand;
-mod operators;
 pub mod row;
 pub mod rows;
 pub mod runs;
 pub mod showing;
-pub mod slot;
 pub mod storing;
 pub mod trees;

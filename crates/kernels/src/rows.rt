@@ -17,6 +17,7 @@ use encoding::shape::Shape;
 use encoding::words::read_number;
 use numbers::{canonical, float_of, is_clear, look, no_nans, plain_float};
 use views::copying::step_to;
+use views::lent::Lent;
 use views::place::{address_of, number_at};
 use views::view::{Source, View};
 
@@ -27,6 +28,7 @@ pub fn place_of(shape: Shape, number: usize) -> [u32; 8]
 {
     let mut place = [0; 8];
     let mut rest = number;
+    // Stays: two arrays by one axis, the last axis first.
     for k in (0..shape.rank).rev() {
         let len = shape.lens[k] as usize;
         place[k] = (rest % len) as u32;
@@ -63,9 +65,7 @@ pub fn row_at(view: &View, number: usize) -> Row
 pub fn fill_with(x: f64, out: &mut [f64])
     ensures { (a : ℕ) → StandsFor x a → StandFor out.new (λ _. a) }
 {
-    for i in 0..out.len() {
-        out[i] = x;
-    }
+    out.fill(x);
 }
 
 // Words of which none is a NaN's pattern.
@@ -74,8 +74,8 @@ fn read_plain(words: &[u64], out: &mut [f64])
     requires plain { (k : ℕ) → k < length words.now → NoNan (slice_index words.now k) }
     ensures { StandFor out.new (λ j. slice_index words.now j) }
 {
-    for i in 0..out.len() {
-        out[i] = plain_float(words[i]);
+    for (i, x) in out.iter_mut().enumerate() {
+        *x = plain_float(words[i]);
     }
 }
 
@@ -84,8 +84,8 @@ fn read_patterns(words: &[u64], out: &mut [f64])
     requires { length words.now ≡ length out.old }
     ensures { StandFor out.new (λ j. slice_index words.now j) }
 {
-    for i in 0..out.len() {
-        out[i] = float_of(words[i]);
+    for (i, x) in out.iter_mut().enumerate() {
+        *x = float_of(words[i]);
     }
 }
 
@@ -108,12 +108,13 @@ fn read_words(area: &[u64], from: usize, stride: i64, out: &mut [f64])
     requires { Walk Area area.now [] (length out.old ∷ []) (stride ∷ []) from }
     ensures { StandFor out.new (along Area area.now [] from stride) }
 {
-    for i in 0..out.len() {
-        out[i] = float_of(area[step_to(from, stride, i)]);
+    for (i, x) in out.iter_mut().enumerate() {
+        *x = float_of(area[step_to(from, stride, i)]);
     }
 }
 
 // The word at a byte, with all of its bytes there: one load.
+// Stays: `read_u64` tests for each word what is known here of the whole run, and gives it in an Option.
 pub(crate) fn word_at(bytes: &[u8], at: usize) -> u64
     requires { at + 8 ≤ length bytes.now }
     ensures { result ≡ word8 bytes.now at }
@@ -136,6 +137,7 @@ pub(crate) fn no_nan_bytes(bytes: &[u8], base: usize, count: usize) -> bool
     ensures { result ≡ true → (k : ℕ) → k < count → NoNan (word8 bytes.now (base + 8 * k)) }
 {
     let mut seen = 0;
+    // Stays: k is a word's number among bytes, and no element.
     for k in 0..count {
         seen = look(seen, word_at(bytes, base + 8 * k));
     }
@@ -148,8 +150,8 @@ fn read_plain_bytes(bytes: &[u8], base: usize, out: &mut [f64])
     requires plain { (k : ℕ) → k < length out.old → NoNan (word8 bytes.now (base + 8 * k)) }
     ensures { StandFor out.new (λ j. number_at bytes.now (base + 8 * j)) }
 {
-    for i in 0..out.len() {
-        out[i] = plain_float(word_at(bytes, base + 8 * i));
+    for (i, x) in out.iter_mut().enumerate() {
+        *x = plain_float(word_at(bytes, base + 8 * i));
     }
 }
 
@@ -157,8 +159,8 @@ fn read_any_bytes(bytes: &[u8], base: usize, out: &mut [f64])
     requires { base + 8 * length out.old ≤ length bytes.now }
     ensures { StandFor out.new (λ j. number_at bytes.now (base + 8 * j)) }
 {
-    for i in 0..out.len() {
-        out[i] = float_of(canonical(word_at(bytes, base + 8 * i)));
+    for (i, x) in out.iter_mut().enumerate() {
+        *x = float_of(canonical(word_at(bytes, base + 8 * i)));
     }
 }
 
@@ -179,44 +181,37 @@ fn read_numbers(bytes: &[u8], base: usize, from: usize, stride: i64, out: &mut [
     requires { Walk (Input base) [] bytes.now (length out.old ∷ []) (stride ∷ []) from }
     ensures { StandFor out.new (along (Input base) [] bytes.now from stride) }
 {
-    for i in 0..out.len() {
-        let Some(x) = read_number(bytes, base + 8 * step_to(from, stride, i)) else {
+    for (i, x) in out.iter_mut().enumerate() {
+        let Some(a) = read_number(bytes, base + 8 * step_to(from, stride, i)) else {
             return unreachable();
         };
-        out[i] = float_of(x);
+        *x = float_of(a);
     }
 }
 
 // A row of places, at least one: the same number again, numbers one after another, or numbers `stride` apart.
-pub fn read_row(
-    source: Source,
-    area: &[u64],
-    bytes: &[u8],
-    from: usize,
-    stride: i64,
-    out: &mut [f64],
-)
-    requires walk { Walk source area.now bytes.now (length out.old ∷ []) (stride ∷ []) from }
+pub fn read_row(source: Source, lent: Lent, from: usize, stride: i64, out: &mut [f64])
+    requires walk { Walk source lent.area.now lent.bytes.now (length out.old ∷ []) (stride ∷ []) from }
     requires some { 0 < length out.old }
-    ensures { StandFor out.new (along source area.now bytes.now from stride) }
+    ensures { StandFor out.new (along source lent.entry.area.now lent.entry.bytes.now from stride) }
 {
     if stride == 0 {
-        fill_with(float_of(number_at(source, area, bytes, from)), out);
+        fill_with(float_of(number_at(source, lent, from)), out);
         return;
     }
     match source {
         Source::Area => {
             if stride == 1 {
-                read_run(area, from, out);
+                read_run(lent.area, from, out);
             } else {
-                read_words(area, from, stride, out);
+                read_words(lent.area, from, stride, out);
             }
         }
         Source::Input(base) => {
             if stride == 1 {
-                read_bytes_run(bytes, base + 8 * from, out);
+                read_bytes_run(lent.bytes, base + 8 * from, out);
             } else {
-                read_numbers(bytes, base, from, stride, out);
+                read_numbers(lent.bytes, base, from, stride, out);
             }
         }
     }

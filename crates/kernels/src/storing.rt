@@ -6,10 +6,12 @@ ghost use Rattle.numbers.specs.Patterns.{Pattern};
 ghost use Rattle.kernels.specs.Blocks.{StandFor};
 ghost use Rattle.kernels.specs.Filling.{Ready, Able, Shallow, PartStored, Stored};
 
-use crate::slot::Slot;
+use crate::env::Env;
 use crate::trees::{cost_of, fill};
 use encoding::shape::Shape;
 use numbers::pattern_of;
+use views::lent::Lent;
+use views::view::View;
 
 // How many numbers a block has at most, and how many all spare blocks have together.
 pub(crate) const BLOCK: usize = 256;
@@ -17,6 +19,7 @@ pub(crate) const BLOCK: usize = 256;
 const SPARE: usize = 4096;
 
 // How many numbers of scratch `store` and `show` work in. They need not be zeroed, and hold nothing that lasts.
+// Stays: scratch is a slice of so many numbers or more, where a struct of two arrays would take just so many.
 pub const SCRATCH: usize = 4352;
 
 // How long blocks may be so that so many of them fit the spare slice.
@@ -37,18 +40,19 @@ pub(crate) fn write_block(block: &[f64], out: &mut [u64])
     requires { length out.old ≡ length block.now }
     ensures { (f : ℕ → ℕ) → StandFor block.now f → ((k : ℕ) → k < length block.now → Pattern (f k)) → (k : ℕ) → k < length block.now → slice_index out.new k ≡ f k }
 {
-    for i in 0..out.len() {
-        out[i] = pattern_of(block[i]);
+    for (i, a) in out.iter_mut().enumerate() {
+        *a = pattern_of(block[i]);
     }
 }
 
 // A block of the numbers of the tree at `node`, from place `first` on, at its words behind `to`.
-fn store_block(
-    words: &[u32],
+// Stays: no `Env` is handed over, since the area is lent whole to be written, and only below `to` for the tree.
+fn store_block<'a>(
+    words: &'a [u32],
     node: usize,
-    names: &[Slot; 64],
-    area: &mut [u64],
-    bytes: &[u8],
+    names: &'a [Option<View>; 64],
+    area: &'a mut [u64],
+    bytes: &'a [u8],
     shape: Shape,
     to: usize,
     first: usize,
@@ -60,27 +64,27 @@ fn store_block(
     requires room { to + size (shape_of shape) ≤ length area.old }
     ensures { PartStored words.now node names.now bytes.now (shape_of shape) to first (length block.old) area.old area.new }
 {
-    fill(
+    let env = Env {
         words,
-        node,
         names,
-        &area[0..to],
-        bytes,
+        lent: Lent {
+            area: &area[0..to],
+            bytes,
+        },
         shape,
-        first,
-        block,
-        spare,
-    );
+    };
+    fill(&env, node, first, block, spare);
     let at = to + first;
     write_block(block, &mut area[at..at + block.len()]);
 }
 
 // The numbers of the tree at `node`, rows first from word `to` on. Its leaves lie below. The scratch need not be
 // zeroed, and holds nothing that lasts.
+// Stays: the parts of an `Env` come by themselves, as for `store_block`.
 pub fn store_with(
     words: &[u32],
     node: usize,
-    names: &[Slot; 64],
+    names: &[Option<View>; 64],
     area: &mut [u64],
     bytes: &[u8],
     shape: Shape,
@@ -116,10 +120,11 @@ pub fn store_with(
 }
 
 // The same with scratch of its own.
+// Stays: the parts of an `Env` come by themselves, as for `store_block`.
 pub fn store(
     words: &[u32],
     node: usize,
-    names: &[Slot; 64],
+    names: &[Option<View>; 64],
     area: &mut [u64],
     bytes: &[u8],
     shape: Shape,

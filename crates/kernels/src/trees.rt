@@ -8,12 +8,11 @@ ghost use Rattle.kernels.specs.Filling.{Able, Filled, TreeStands, Costs};
 use crate::blocks::{apply_binary, apply_unary, choose_blocks};
 use crate::combining::combine;
 use crate::cost::Cost;
+use crate::env::Env;
 use crate::leaves::{fill_count, fill_input, fill_name};
 use crate::operand::Operand;
 use crate::rows::fill_with;
 use crate::runs::find_run;
-use crate::slot::Slot;
-use encoding::shape::Shape;
 use numbers::float_of;
 use program::step::Step;
 use program::words::step_at;
@@ -56,33 +55,23 @@ pub fn cost_of(words: &[u32], node: usize) -> Cost
 // The numbers of the tree at `node` from place `first` on, and the node behind the tree. An operand that lies ready
 // is read where it is; an operation's later operands go into blocks of the spare slice, which holds nothing that
 // lasts.
-pub fn fill(
-    words: &[u32],
-    node: usize,
-    names: &[Slot; 64],
-    area: &[u64],
-    bytes: &[u8],
-    shape: Shape,
-    first: usize,
-    out: &mut [f64],
-    spare: &mut [f64],
-) -> usize
-    requires able { Able words.now node names.now area.now bytes.now (shape_of shape) (length out.old) (length spare.old) }
-    requires within { first + length out.old ≤ size (shape_of shape) }
+pub fn fill(env: &Env, node: usize, first: usize, out: &mut [f64], spare: &mut [f64]) -> usize
+    requires able { Able env.now.words.now node env.now.names.now env.now.lent.area.now env.now.lent.bytes.now (shape_of env.now.shape) (length out.old) (length spare.old) }
+    requires within { first + length out.old ≤ size (shape_of env.now.shape) }
     requires short { first + length out.old < 2 ^ 64 }
-    ensures skips { Skips words.now node result }
-    ensures filled { Filled words.now node names.now area.now bytes.now (shape_of shape) first out.new }
+    ensures skips { Skips env.now.words.now node result }
+    ensures filled { Filled env.now.words.now node env.now.names.now env.now.lent.area.now env.now.lent.bytes.now (shape_of env.now.shape) first out.new }
 {
-    let Some(step) = step_at(words, node) else {
+    let Some(step) = step_at(env.words, node) else {
         return unreachable();
     };
     match step {
         Step::Name(k) => {
-            fill_name(names, k, area, bytes, shape, first, out);
+            fill_name(env, k, first, out);
             node + 1
         }
         Step::Input(k) => {
-            fill_input(k, area, bytes, shape, first, out);
+            fill_input(env, k, first, out);
             node + 1
         }
         Step::Constant(x) => {
@@ -90,60 +79,46 @@ pub fn fill(
             node + 1
         }
         Step::Count(m) => {
-            fill_count(m, shape, first, out);
+            fill_count(m, env.shape, first, out);
             node + 1
         }
         Step::Each(op) => {
-            let next = fill(
-                words,
-                node + 1,
-                names,
-                area,
-                bytes,
-                shape,
-                first,
-                out,
-                spare,
-            );
+            let next = fill(env, node + 1, first, out, spare);
             apply_unary(op, out);
             next
         }
         Step::Both(op) => {
             let start = node + 1;
             let count = out.len();
-            let left = find_run(words, start, names, area, bytes, shape, first, count);
+            let left = find_run(env, start, first, count);
             match left {
                 Operand::Own => {
-                    let middle = fill(words, start, names, area, bytes, shape, first, out, spare);
-                    let right = find_run(words, middle, names, area, bytes, shape, first, count);
+                    let middle = fill(env, start, first, out, spare);
+                    let right = find_run(env, middle, first, count);
                     match right {
                         Operand::Own => {
                             let (block, rest) = spare.split_at_mut(count);
-                            let next = fill(
-                                words, middle, names, area, bytes, shape, first, block, rest,
-                            );
+                            let next = fill(env, middle, first, block, rest);
                             apply_binary(op, out, block);
                             next
                         }
                         _ => {
-                            combine(op, Operand::Own, right, area, bytes, out);
+                            combine(op, Operand::Own, right, env.lent, out);
                             middle + 1
                         }
                     }
                 }
                 _ => {
                     let middle = start + 1;
-                    let right = find_run(words, middle, names, area, bytes, shape, first, count);
+                    let right = find_run(env, middle, first, count);
                     match right {
                         Operand::Own => {
-                            let next = fill(
-                                words, middle, names, area, bytes, shape, first, out, spare,
-                            );
-                            combine(op, left, Operand::Own, area, bytes, out);
+                            let next = fill(env, middle, first, out, spare);
+                            combine(op, left, Operand::Own, env.lent, out);
                             next
                         }
                         _ => {
-                            combine(op, left, right, area, bytes, out);
+                            combine(op, left, right, env.lent, out);
                             middle + 1
                         }
                     }
@@ -151,21 +126,11 @@ pub fn fill(
             }
         }
         Step::Choose => {
-            let second = fill(
-                words,
-                node + 1,
-                names,
-                area,
-                bytes,
-                shape,
-                first,
-                out,
-                spare,
-            );
+            let second = fill(env, node + 1, first, out, spare);
             let (left, rest) = spare.split_at_mut(out.len());
-            let third = fill(words, second, names, area, bytes, shape, first, left, rest);
+            let third = fill(env, second, first, left, rest);
             let (right, last) = rest.split_at_mut(out.len());
-            let next = fill(words, third, names, area, bytes, shape, first, right, last);
+            let next = fill(env, third, first, right, last);
             choose_blocks(out, left, right);
             next
         }

@@ -1,60 +1,67 @@
 -- The buffer that ends first, of those that end above a word.
-use Rattle.std.proofs.Common.{◌≡◌, ℕ, ◌+◌, ◌-◌, ◌^◌, ◌<◌, ◌≤◌, ◌⊎◌, List, length, get_or, refl, ap, ◌∙◌, ⊎_elim, arith, below_more}
+use Rattle.std.proofs.Common.{◌≡◌, ℕ, ◌+◌, ◌<◌, ◌≤◌, List, length, get_or, ap, ◌∙◌, ⊎_elim, arith, below_more, Option, None, Some, MatchOption, refl, sym, subst}
 use Rattle.std.proofs.lemmas.List.{get_or_past}
 use Rattle.std.proofs.lemmas.Bool.{cases_lt}
-use Rattle.kernels.specs.declared.slot.Slot.{Slot}
-use Rattle.kernels.specs.declared.slot.Slot.TheVariants.{Empty}
+use Rattle.views.specs.declared.view.View.{View}
 use Rattle.memory.specs.Spans.{high_of}
 use Rattle.memory.specs.Packing.{Lowest, Settled}
 use Rattle.memory.proofs.Slotted.{empty_high}
 
--- the best of the first n slots, or 64
-pub record Best (table : List Slot) (to n best end : ℕ) : Type 0 where
-  pub reach : best ≤ 64
-  pub most : 64 ≤ best → end ≡ 2 ^ 64 - 1
-  pub none : 64 ≤ best → (j : ℕ) → j < n → high_of (get_or table j Empty) ≤ to
-  pub ends : best < 64 → end ≡ high_of (get_or table best Empty)
-  pub above : best < 64 → to < end
-  pub least : (j : ℕ) → j < n → to < high_of (get_or table j Empty) → end ≤ high_of (get_or table j Empty)
+-- of the first n slots none ends above `to`
+pub record Under (table : List (Option View)) (to n : ℕ) : Type 0 where
+  pub below : (j : ℕ) → j < n → high_of (get_or table j None) ≤ to
 
-pub best_start : (table : List Slot) (to : ℕ) → Best table to 0 64 (2 ^ 64 - 1)
-best_start table to =
-    record { reach = omega arith; most = λ e. refl; none = λ e j h. absurd (omega arith); ends = λ h. absurd (omega arith); above = λ h. absurd (omega arith); least = λ j l. absurd (omega arith) }
+-- of the first n slots that end above `to`, p is a slot that ends first, with its end
+pub record First (table : List (Option View)) (to n : ℕ) (p : ℕ × ℕ) : Type 0 where
+  pub there : p.0 < n
+  pub ends : p.1 ≡ high_of (get_or table p.0 None)
+  pub above : to < p.1
+  pub least : (j : ℕ) → j < n → to < high_of (get_or table j None) → p.1 ≤ high_of (get_or table j None)
 
-module _ (table : List Slot) (to n best end x : ℕ) (b : Best table to n best end) (is : x ≡ high_of (get_or table n Empty)) where
-  pub best_takes : n < 64 → to < x → x ≤ end → Best table to (n + 1) n x
-  best_takes h l o =
-      record {
-        reach = omega arith;
-        most = λ e. absurd (omega arith);
-        none = λ e. absurd (omega arith);
-        ends = λ _. is;
-        above = λ _. l;
-        least = below_more (λ j. to < high_of (get_or table j Empty) → x ≤ high_of (get_or table j Empty)) n (λ j m u. omega (arith, b.least j m u)) (λ u. omega arith);
-      }
-
-  pub best_keeps : x < 2 ^ 64 → (x ≤ to) ⊎ (end < x) → Best table to (n + 1) best end
-  best_keeps small o =
-      record {
-        reach = b.reach;
-        most = b.most;
-        none = λ e. below_more (λ j. high_of (get_or table j Empty) ≤ to) n (b.none e) (⊎_elim (λ l. omega arith) (λ l. absurd (omega (arith, b.most e))) o);
-        ends = b.ends;
-        above = b.above;
-        least = below_more (λ j. to < high_of (get_or table j Empty) → end ≤ high_of (get_or table j Empty)) n b.least (λ u. ⊎_elim (λ l. absurd (omega arith)) (λ l. omega arith) o);
-      }
-
-module _ (table : List Slot) (to n best end : ℕ) (b : Best table to n best end) (many : length table ≡ 64) (all : 64 ≤ n) where
-  past_low : (j : ℕ) → 64 ≤ j → high_of (get_or table j Empty) ≡ 0
-  past_low j h = ap high_of (get_or_past table j Empty (omega arith)) ∙ empty_high
-
-  pub best_found : best < 64 → Lowest table to best
-  best_found h =
+module _ (table : List (Option View)) (to n x : ℕ) (is : x ≡ high_of (get_or table n None)) where
+  pub best_takes : (best : Option (ℕ × ℕ)) → MatchOption best (Under table to n) (First table to n) → ((p : ℕ × ℕ) → best ≡ Some p → x < p.1) → to < x → First table to (n + 1) (n, x)
+  best_takes None u less l =
       record {
         there = omega arith;
-        above = omega (arith, b.ends h, b.above h);
-        least = λ j u. ⊎_elim (λ l. omega (arith, b.ends h, b.least j (omega arith) u)) (λ l. absurd (omega (arith, past_low j l))) (cases_lt j 64);
+        ends = is;
+        above = l;
+        least = below_more (λ j. to < high_of (get_or table j None) → x ≤ high_of (get_or table j None)) n (λ j m a. absurd (omega (arith, u.below j m))) (λ a. omega arith);
+      }
+  best_takes (Some p) f less l =
+      record {
+        there = omega arith;
+        ends = is;
+        above = l;
+        least = below_more (λ j. to < high_of (get_or table j None) → x ≤ high_of (get_or table j None)) n (λ j m a. omega (arith, f.least j m a, less p refl)) (λ a. omega arith);
       }
 
-  pub best_none : 64 ≤ best → Settled table to
-  best_none h = record { below = λ j. ⊎_elim (λ l. b.none h j (omega arith)) (λ l. omega (arith, past_low j l)) (cases_lt j 64) }
+  pub best_keeps : (best : Option (ℕ × ℕ)) → MatchOption best (Under table to n) (First table to n) → (to < x → (best ≡ None → ⊥)) → (to < x → (p : ℕ × ℕ) → best ≡ Some p → p.1 ≤ x) → MatchOption best (Under table to (n + 1)) (First table to (n + 1))
+  best_keeps None u none more =
+      record { below = below_more (λ j. high_of (get_or table j None) ≤ to) n u.below (⊎_elim (λ l. absurd (none l refl)) (λ l. omega arith) (cases_lt to x)) }
+  best_keeps (Some p) f none more =
+      record {
+        there = omega (arith, f.there);
+        ends = f.ends;
+        above = f.above;
+        least = below_more (λ j. to < high_of (get_or table j None) → p.1 ≤ high_of (get_or table j None)) n f.least (λ a. omega (arith, more (omega arith) p refl));
+      }
+
+module _ (table : List (Option View)) (to n : ℕ) (all : length table ≤ n) where
+  past_low : (j : ℕ) → length table ≤ j → high_of (get_or table j None) ≡ 0
+  past_low j h = ap high_of (get_or_past table j None h) ∙ empty_high
+
+  best_found : {p : ℕ × ℕ} → n ≤ length table → First table to n p → Lowest table to p.0
+  best_found h f =
+      record {
+        there = omega (arith, f.there);
+        above = omega (arith, f.ends, f.above);
+        least = λ j u. ⊎_elim (λ l. omega (arith, f.ends, f.least j (omega arith) u)) (λ l. absurd (omega (arith, past_low j l))) (cases_lt j (length table));
+      }
+
+  best_none : Under table to n → Settled table to
+  best_none u = record { below = λ j. ⊎_elim (λ l. u.below j (omega arith)) (λ l. omega (arith, past_low j l)) (cases_lt j (length table)) }
+
+  pub best_told : n ≤ length table → (best : Option (ℕ × ℕ)) (r : Option ℕ) → MatchOption best (Under table to n) (First table to n) → (best ≡ None → r ≡ None) → ((p : ℕ × ℕ) → best ≡ Some p → r ≡ Some p.0) →
+      MatchOption r (Settled table to) (λ k. Lowest table to k)
+  best_told h None r u none some = subst (λ r. MatchOption r (Settled table to) (λ k. Lowest table to k)) (sym (none refl)) (best_none u)
+  best_told h (Some p) r f none some = subst (λ r. MatchOption r (Settled table to) (λ k. Lowest table to k)) (sym (some p refl)) (best_found h f)

@@ -1,8 +1,8 @@
 -- Buffers are moved together, one after the other.
-use Rattle.std.proofs.Common.{◌≡◌, ℕ, ◌+◌, ◌≤◌, List, sym, refl, ◌∙◌, ⊎_elim, arith}
+use Rattle.std.proofs.Common.{◌≡◌, ℕ, ◌+◌, ◌≤◌, List, sym, refl, ◌∙◌, ⊎_elim, arith, Option}
 use Rattle.std.proofs.lemmas.Bool.{cases_lt}
 use Rattle.semantics.specs.Values.{Cell}
-use Rattle.kernels.specs.declared.slot.Slot.{Slot}
+use Rattle.views.specs.declared.view.View.{View}
 use Rattle.kernels.specs.Filling.{Tabled}
 use Rattle.memory.specs.declared.memory.Memory.{Memory}
 use Rattle.memory.specs.Spans.{high_of, slot_size, loose_size}
@@ -13,7 +13,7 @@ use Rattle.memory.proofs.Adding.{sum_both}
 use Rattle.memory.proofs.Slotted.{loose_below}
 use Rattle.memory.proofs.Moving.{firm_above, firm_under}
 
-pub neat_above : {t : List Slot} {low high : ℕ} → Neat t low → low ≤ high → Neat t high
+pub neat_above : {t : List (Option View)} {low high : ℕ} → Neat t low → low ≤ high → Neat t high
 neat_above n h = record { good = n.good; up = n.up; below = λ k. omega (arith, n.below k); apart = n.apart }
 
 -- all buffers that end at `to` or below are together
@@ -45,7 +45,7 @@ gathered_none area m n c =
     }
 
 module _ {a b : List ℕ} {m n : Memory} {to : ℕ} (g : Gathered a b m n to) where
-  pub gathered_more : (c : List ℕ) (names : List Slot) (far : ℕ) → Turn b c n.names names to far → Gathered a c m (record { names = names; top = n.top; held = n.held; loose = n.loose }) far
+  pub gathered_more : (c : List ℕ) (names : List (Option View)) (far : ℕ) → Turn b c n.names names to far → Gathered a c m (record { names = names; top = n.top; held = n.held; loose = n.loose }) far
   gathered_more c names far t =
       let count = g.counted in
       record {
@@ -74,7 +74,7 @@ module _ {a b : List ℕ} {m n : Memory} {to : ℕ} (g : Gathered a b m n to) wh
         fills = g.fills;
       }
 
-  firm_loose : (s : Slot) → firm to s + loose_size s ≤ slot_size s
+  firm_loose : (s : Option View) → firm to s + loose_size s ≤ slot_size s
   firm_loose s = ⊎_elim (λ l. omega (arith, firm_above to s l, loose_below s)) (λ l. omega (arith, firm_under to s l, loose_below s)) (cases_lt to (high_of s))
 
   pub gathered_packed : Owned m.names → to + n.loose ≤ n.held

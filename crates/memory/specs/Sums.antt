@@ -1,7 +1,7 @@
 -- Sums over the slots of a table.
-use Rattle.std.specs.Prelude.{ℕ, ◌+◌, List, [], ◌∷◌}
-use Rattle.kernels.specs.declared.slot.Slot.{Slot}
+use Rattle.std.specs.Prelude.{ℕ, ◌+◌, List, [], ◌∷◌, Option}
+use Rattle.views.specs.declared.view.View.{View}
 
-unfoldable pub sum_of : (Slot → ℕ) → List Slot → ℕ
+unfoldable pub sum_of : (Option View → ℕ) → List (Option View) → ℕ
 sum_of f [] = 0
 sum_of f (s ∷ ss) = f s + sum_of f ss

@@ -1,19 +1,17 @@
 -- The table of names and the number area: buffers are equal or apart, and lie below the top.
-use Rattle.std.specs.Prelude.{◌≡◌, ℕ, ◌+◌, ◌<◌, ◌≤◌, max, List, length, slice_index_or, slice_set}
+use Rattle.std.specs.Prelude.{◌≡◌, ℕ, ◌+◌, ◌<◌, ◌≤◌, max, List, length, slice_index_or, slice_set, Option, Some, None}
 use Rattle.semantics.specs.Values.{Cell}
 use Rattle.views.specs.declared.view.View.{View}
-use Rattle.kernels.specs.declared.slot.Slot.{Slot}
-use Rattle.kernels.specs.declared.slot.Slot.TheVariants.{Empty, Held}
 use Rattle.kernels.specs.Filling.{Tabled}
 use Rattle.memory.specs.declared.memory.Memory.{Memory}
 use Rattle.memory.specs.Spans.{low_of, high_of, slot_size, loose_size, Apart, GoodSlot, Fills}
 use Rattle.memory.specs.Sums.{sum_of}
 
-pub record Neat (table : List Slot) (top : ℕ) : Type 0 where
-  pub good : (k : ℕ) → GoodSlot (slice_index_or table k Empty)
-  pub up : (k : ℕ) → low_of (slice_index_or table k Empty) ≤ high_of (slice_index_or table k Empty)
-  pub below : (k : ℕ) → high_of (slice_index_or table k Empty) ≤ top
-  pub apart : (j k : ℕ) → Apart (slice_index_or table j Empty) (slice_index_or table k Empty)
+pub record Neat (table : List (Option View)) (top : ℕ) : Type 0 where
+  pub good : (k : ℕ) → GoodSlot (slice_index_or table k None)
+  pub up : (k : ℕ) → low_of (slice_index_or table k None) ≤ high_of (slice_index_or table k None)
+  pub below : (k : ℕ) → high_of (slice_index_or table k None) ≤ top
+  pub apart : (j k : ℕ) → Apart (slice_index_or table j None) (slice_index_or table k None)
 
 -- the running counts are what they count
 pub record Counted (m : Memory) : Type 0 where
@@ -22,19 +20,19 @@ pub record Counted (m : Memory) : Type 0 where
   pub loose : m.loose ≡ sum_of loose_size m.names
 
 -- some slot shows all places of the buffer of slot k
-pub record Owner (table : List Slot) (k : ℕ) : Type 0 where
+pub record Owner (table : List (Option View)) (k : ℕ) : Type 0 where
   pub who : ℕ
   pub there : who < length table
-  pub low : low_of (slice_index_or table who Empty) ≡ low_of (slice_index_or table k Empty)
-  pub high : high_of (slice_index_or table who Empty) ≡ high_of (slice_index_or table k Empty)
-  pub fills : Fills (slice_index_or table who Empty)
+  pub low : low_of (slice_index_or table who None) ≡ low_of (slice_index_or table k None)
+  pub high : high_of (slice_index_or table who None) ≡ high_of (slice_index_or table k None)
+  pub fills : Fills (slice_index_or table who None)
 
-pub record Owned (table : List Slot) : Type 0 where
+pub record Owned (table : List (Option View)) : Type 0 where
   pub owner : (k : ℕ) → k < length table → Owner table k
 
 -- every view shows all places of its buffer
-pub record AllFill (table : List Slot) : Type 0 where
-  pub each : (k : ℕ) → Fills (slice_index_or table k Empty)
+pub record AllFill (table : List (Option View)) : Type 0 where
+  pub each : (k : ℕ) → Fills (slice_index_or table k None)
 
 -- whatever the table stood for, it stands for now: buffers may have been moved
 pub record Carries (old-area new-area : List ℕ) (old new : Memory) : Type 0 where
@@ -48,8 +46,8 @@ pub record Carries (old-area new-area : List ℕ) (old new : Memory) : Type 0 wh
 
 -- name k has a view now
 pub record Bound (old new : Memory) (k : ℕ) (v : View) : Type 0 where
-  pub names : new.names ≡ slice_set old.names k (Held v)
-  pub top : new.top ≡ max old.top (high_of (Held v))
-  pub held : new.held + slot_size (slice_index_or old.names k Empty) ≡ old.held + slot_size (Held v)
-  pub loose : new.loose + loose_size (slice_index_or old.names k Empty) ≡ old.loose + loose_size (Held v)
+  pub names : new.names ≡ slice_set old.names k (Some v)
+  pub top : new.top ≡ max old.top (high_of (Some v))
+  pub held : new.held + slot_size (slice_index_or old.names k None) ≡ old.held + slot_size (Some v)
+  pub loose : new.loose + loose_size (slice_index_or old.names k None) ≡ old.loose + loose_size (Some v)
   pub counted : Counted new

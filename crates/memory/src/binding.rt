@@ -1,14 +1,12 @@
 // Names that hold nothing yet, and a name that holds an array from now on.
-ghost use Rattle.std.specs.Prelude.{◌≡◌, ℕ, ◌+◌, ◌^◌, ◌<◌, List};
+ghost use Rattle.std.specs.Prelude.{◌≡◌, ℕ, ◌+◌, ◌^◌, ◌<◌, List, Some};
 ghost use Rattle.semantics.specs.Programs.{nothing};
-ghost use Rattle.kernels.specs.declared.slot.Slot.TheVariants.{Held};
 ghost use Rattle.kernels.specs.Filling.{Tabled};
 ghost use Rattle.memory.specs.Spans.{slot_size};
 ghost use Rattle.memory.specs.Tables.{Neat, Counted, AllFill, Bound};
 
 use crate::memory::Memory;
 use crate::spans::{high_of, loose_of, size_of};
-use kernels::slot::Slot;
 use views::view::View;
 
 // 64 names with nothing.
@@ -20,7 +18,7 @@ pub fn no_names() -> Memory
     ensures tabled { (area bs : List ℕ) → Tabled area bs result.names (nothing 64) }
 {
     Memory {
-        names: [Slot::Empty; 64],
+        names: [None; 64],
         top: 0,
         held: 0,
         loose: 0,
@@ -31,11 +29,11 @@ pub fn no_names() -> Memory
 pub fn bind(memory: &mut Memory, name: usize, view: View)
     requires there { name < 64 }
     requires counted { Counted memory.old }
-    requires few { memory.old.held + slot_size (Held view) < 2 ^ 62 }
+    requires few { memory.old.held + slot_size (Some view) < 2 ^ 62 }
     ensures { Bound memory.old memory.new name view }
 {
     let old = memory.names[name];
-    let new = Slot::Held(view);
+    let new = Some(view);
     let freed = size_of(old);
     let taken = size_of(new);
     memory.held = memory.held - freed + taken;

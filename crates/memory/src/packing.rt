@@ -1,66 +1,56 @@
 // Buffers moved together, lowest first, so that the free words are all above them.
-ghost use Rattle.std.specs.Prelude.{ℕ, ◌+◌, ◌<◌, ◌≤◌, length, MatchOption, slice_index_or};
-ghost use Rattle.kernels.specs.declared.slot.Slot.TheVariants.{Empty};
+ghost use Rattle.std.specs.Prelude.{ℕ, ◌+◌, ◌<◌, ◌≤◌, length, None, MatchOption, slice_index_or};
 ghost use Rattle.memory.specs.Spans.{GoodSlot};
 ghost use Rattle.memory.specs.Tables.{Neat, Counted, Owned, Carries};
 ghost use Rattle.memory.specs.Packing.{After, AllAfter, Lowest, Settled, Parted, Turn};
 
 use crate::memory::Memory;
 use crate::spans::{high_of, low_of};
-use kernels::slot::Slot;
 use views::shift::shift_down;
-use views::view::Source;
+use views::view::{Source, View};
 
 // The slot whose buffer ends first, of those that end above `to`.
-fn lowest(names: &[Slot; 64], to: usize) -> Option<usize>
+fn lowest(names: &[Option<View>; 64], to: usize) -> Option<usize>
     ensures { MatchOption result (Settled names.now to) (λ k. Lowest names.now to k) }
 {
-    let mut best = 64;
-    let mut end = usize::MAX;
-    for k in 0..64 {
-        let high = high_of(names[k]);
-        if to < high && high <= end {
-            best = k;
-            end = high;
+    let mut best: Option<(usize, usize)> = None;
+    for (k, slot) in names.iter().enumerate() {
+        let high = high_of(*slot);
+        if to < high && best.is_none_or(|(_, end)| high < end) {
+            best = Some((k, high));
         }
     }
-    if best < 64 { Some(best) } else { None }
+    best.map(|(k, _)| k)
 }
 
 // A slot after the words low..high were moved down to `to`.
-fn shift_slot(slot: Slot, low: usize, high: usize, to: usize) -> Slot
+fn shift_slot(slot: Option<View>, low: usize, high: usize, to: usize) -> Option<View>
     requires good { GoodSlot slot }
     requires down { to ≤ low }
     requires some { to < high }
     ensures { After low high to slot result }
 {
-    match slot {
-        Slot::Empty => slot,
-        Slot::Held(view) => match view.source {
-            Source::Input(_) => slot,
-            Source::Area => if view.low == low && view.high == high {
-                Slot::Held(shift_down(view, to))
-            } else {
-                slot
-            },
-        },
+    let view = slot?;
+    match view.source {
+        Source::Area if view.low == low && view.high == high => Some(shift_down(view, to)),
+        _ => slot,
     }
 }
 
 // All slots after the words low..high were moved down to `to`.
-fn shift_holders(names: &mut [Slot; 64], low: usize, high: usize, to: usize)
-    requires good { (k : ℕ) → GoodSlot (slice_index_or names.old k Empty) }
+fn shift_holders(names: &mut [Option<View>; 64], low: usize, high: usize, to: usize)
+    requires good { (k : ℕ) → GoodSlot (slice_index_or names.old k None) }
     requires down { to ≤ low }
     requires some { to < high }
     ensures { AllAfter low high to names.old names.new }
 {
-    for j in 0..64 {
-        names[j] = shift_slot(names[j], low, high, to);
+    for slot in names.iter_mut() {
+        *slot = shift_slot(*slot, low, high, to);
     }
 }
 
 // Moves the buffer of slot `k` down to `to`; the word behind it.
-fn move_down(names: &mut [Slot; 64], area: &mut [u64], k: usize, to: usize) -> usize
+fn move_down(names: &mut [Option<View>; 64], area: &mut [u64], k: usize, to: usize) -> usize
     requires neat { Neat names.old (length area.old) }
     requires parted { Parted names.old to }
     requires lowest { Lowest names.old to k }

@@ -2,11 +2,7 @@
 ghost use Rattle.std.specs.Prelude.{◌≡◌};
 ghost use Rattle.numbers.specs.Binary64.{canonical_bits};
 
-const SIGN: u64 = 1 << 63;
-
-const INFINITY: u64 = 0x7ff0_0000_0000_0000;
-
-const NAN: u64 = 0x7ff8_0000_0000_0000;
+use crate::named::{INFINITY, NAN, SIGN};
 
 // A NaN of any bits becomes the one; any other number stays.
 pub fn canonical(a: u64) -> u64

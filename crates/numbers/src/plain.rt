@@ -4,7 +4,7 @@ ghost use Rattle.std.specs.Prelude.{◌≡◌, ℕ, ◌<◌, true, length, slice
 ghost use Rattle.numbers.specs.Plain.{NoNan, Clear, Looked};
 ghost use Rattle.numbers.specs.Standing.{StandsFor};
 
-const SIGN: u64 = 1 << 63;
+use crate::named::SIGN;
 
 // What carries a pattern above infinity's, without its sign, into the top bit.
 const CARRY: u64 = 0x000f_ffff_ffff_ffff;
@@ -27,8 +27,8 @@ pub fn no_nans(words: &[u64]) -> bool
     ensures { result ≡ true → (k : ℕ) → k < length words.now → NoNan (slice_index words.now k) }
 {
     let mut seen = 0;
-    for k in 0..words.len() {
-        seen = look(seen, words[k]);
+    for a in words {
+        seen = look(seen, *a);
     }
     is_clear(seen)
 }

@@ -103,4 +103,4 @@ awaits_few Cut = omega arith
 awaits_few (Join x) = omega arith
 awaits_few Rows = omega arith
 awaits_few (Item k) = omega arith
-awaits_few (Slice f b s m) = omega arith
+awaits_few (Slice s) = omega arith

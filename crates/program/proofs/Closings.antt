@@ -114,7 +114,7 @@ neither_other Cut no_end no-again = refl
 neither_other (Join x) no_end no-again = refl
 neither_other Rows no_end no-again = refl
 neither_other (Item k) no_end no-again = refl
-neither_other (Slice f b s m) no_end no-again = refl
+neither_other (Slice s) no_end no-again = refl
 
 -- past the last step nothing closes
 pub past_all : (ws : List ℕ) (i d : ℕ) → length (steps_in ws) ≤ i → closing d (steps_from ws i) ≡ None

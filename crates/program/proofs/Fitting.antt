@@ -1,5 +1,5 @@
 -- What a text can say fits its words.
-use Rattle.std.proofs.Common.{ℕ, zero, suc, ◌*◌, ◌^◌, ◌<◌, ◌≤◌, true, false, List, [], ◌∷◌, get_or, arith}
+use Rattle.std.proofs.Common.{ℕ, zero, suc, ◌*◌, ◌^◌, ◌<◌, ◌≤◌, Bool, true, false, List, [], ◌∷◌, get_or, arith}
 use Rattle.semantics.specs.declared.operation.Unary.{Unary}
 use Rattle.semantics.specs.declared.operation.Unary.TheVariants.{Neg, Abs, Sqrt, Floor, Not}
 use Rattle.semantics.specs.declared.operation.Binary.{Binary}
@@ -11,7 +11,7 @@ use Rattle.program.specs.declared.step.Step.{Step}
 use Rattle.program.specs.declared.step.Step.TheVariants.{End, Let, Put, Show, Again, Name, Input, Constant, Count, Each, Both, Choose, Fold, Scan, Shape, Turn, Part as Cut, Join, Rows, Item, Slice}
 use Rattle.program.specs.Spelling.{items, slices, spell, spell_program}
 use Rattle.program.specs.Marks.{long}
-use Rattle.program.specs.Words.{words_of, unary_code, binary_code}
+use Rattle.program.specs.Words.{slice_tag, words_of, unary_code, binary_code}
 use Rattle.program.specs.Sayable.{SmallAll, small_none, small_more, SmallParts, parts_none, parts_more, Sayable, say_name, say_input, say_constant, say_count, say_each, say_both, say_choose, say_fold, say_scan, say_shape, say_turn, say_part, say_join, say_rows, SayableProgram, say_end, say_let, say_put, say_show, say_again, deep, FitsWords, FitAll, fit_more}
 
 fit_items : {ks : List ℕ} {r : List Step} → SmallAll ks → FitAll r → FitAll (items ks r)
@@ -49,6 +49,10 @@ module _ (Pattern : ℕ → Type 0) (wide : (x : ℕ) → Pattern x → x < 2 ^ 
   fit_program (say_put k ps e p) h = fit_more (omega arith) (fit_slices ps (fit_spell e (fit_program p h)))
   fit_program (say_show e p) h = fit_more tt (fit_spell e (fit_program p h))
   fit_program (say_again n b p) h = fit_more n (fit_program b (fit_more tt (fit_program p h)))
+
+tag_small : (b : Bool) → slice_tag b < 2 ^ 32
+tag_small false = omega arith
+tag_small true = omega arith
 
 -- five words
 five : {t p a b c : ℕ} → t < 2 ^ 32 → p < 2 ^ 32 → a < 2 ^ 32 → b < 2 ^ 32 → c < 2 ^ 32 → SmallAll (t ∷ p ∷ a ∷ b ∷ c ∷ [])
@@ -95,8 +99,7 @@ words_fit Cut p h l = five (omega arith) l zero_small zero_small zero_small
 words_fit (Join x) p h l = five (omega arith) l h zero_small zero_small
 words_fit Rows p h l = five (omega arith) l zero_small zero_small zero_small
 words_fit (Item k) p h l = five (omega arith) l h zero_small zero_small
-words_fit (Slice from false by many) p h l = five (omega arith) l h.0 h.1 h.2
-words_fit (Slice from true by many) p h l = five (omega arith) l h.0 h.1 h.2
+words_fit (Slice s) p h l = five (tag_small s.backward) l h.0 h.1 h.2
 
 pub small_at : {ks : List ℕ} → SmallAll ks → (i : ℕ) → get_or ks i 0 < 2 ^ 32
 small_at small_none i = zero_small

@@ -1,15 +1,23 @@
 -- The items and slices that steps begin with are those that stand there.
-use Rattle.std.proofs.Common.{◌≡◌, ℕ, zero, suc, ◌+◌, ◌-◌, ◌<◌, ◌≤◌, Bool, List, [], ◌∷◌, length, get_or, Some, None, Option, sym, refl, ap, ◌∙◌, arith}
+use Rattle.std.proofs.Common.{◌≡◌, ℕ, zero, suc, ◌+◌, ◌<◌, ◌≤◌, Bool, cond, List, [], ◌∷◌, length, get_or, Some, None, Option, MatchOption, sym, refl, ap, ◌∙◌, arith}
+use Rattle.std.proofs.lemmas.Iterator.{YieldsList}
+use Rattle.std.proofs.lemmas.Iterator.Consumers.{YieldsList-from_shown}
+use Rattle.std.specs.Option.{is_some}
+use Rattle.std.specs.List.{prefix_len}
 use Rattle.std.proofs.lemmas.List.{get_or-drop}
 use Rattle.semantics.specs.Parts.{Part}
 use Rattle.semantics.specs.Values.{Expr, name, input, constant, count, each, both, choose, fold, scan, shape_to, turn, part, join, rows}
+use Rattle.semantics.specs.Slices.{slice_of}
+use Rattle.semantics.specs.declared.slice.Slice.{Slice as Sliced}
 use Rattle.program.specs.declared.step.Step.{Step}
 use Rattle.program.specs.declared.step.Step.TheVariants.{End, Let, Put, Show, Again, Name, Input, Constant, Count, Each, Both, Choose, Fold, Scan, Shape, Turn, Part as Cut, Join, Rows, Item, Slice}
 use Rattle.program.specs.Spelling.{items, slices, spell}
 use Rattle.program.specs.Words.{steps_in, At}
 use Rattle.program.specs.Standing.{steps_from, Stands, ItemsStand, SlicesStand, SkipsSlices}
 use Rattle.program.specs.Leading.{item_in, slice_in, one_more, leading, items_at, slices_at}
-use Rattle.program.proofs.Nodes.{length_from, items_next, slices_next}
+use Rattle.program.specs.declared.steps.Steps.{Steps}
+use Rattle.program.specs.Steps.{steps_left, Gives}
+use Rattle.program.proofs.Nodes.{length_from, from_at, items_next, slices_next}
 
 from_get_d : (ws : List ℕ) (i n : ℕ) → get_or (steps_from ws i) n End ≡ get_or (steps_in ws) (i + n) End
 unfolding steps_from
@@ -31,39 +39,6 @@ module _ {A : Type 0} (f : Step → Option A) (d : A) where
   leading_there [] n h = absurd (omega arith)
   leading_there (s ∷ t) n h = there_first s t (leading_there t) (f s) refl n h
 
-  -- a step behind some of them that gives something is one of them
-  abbrev More : List Step → Type 0
-  More l = (n : ℕ) (a : A) → n ≤ length (leading f l) → n < length l → f (get_or l n End) ≡ Some a → n < length (leading f l)
-
-  more_first : (s : Step) (t : List Step) → More t → (o : Option A) → f s ≡ o → (n : ℕ) (a : A) → n ≤ length (one_more o (leading f t)) → n < length (s ∷ t) → f (get_or (s ∷ t) n End) ≡ Some a → n < length (one_more o (leading f t))
-  unfolding one_more
-  more_first s t ih None e zero a h i k = let apart : ◌≡◌ {A = ℕ} 0 1 = cc in omega arith
-  more_first s t ih None e (suc n) a h i k = absurd (omega arith)
-  more_first s t ih (Some b) e zero a h i k = omega arith
-  more_first s t ih (Some b) e (suc n) a h i k = let more = ih n a (omega arith) (omega arith) k in omega arith
-
-  leading_more : (l : List Step) → More l
-  unfolding leading
-  leading_more [] n a h i e = absurd (omega arith)
-  leading_more (s ∷ t) n a h i e = more_first s t (leading_more t) (f s) refl n a h i e
-
-  -- a step behind some of them that gives nothing is behind all
-  abbrev All : List Step → Type 0
-  All l = (n : ℕ) → n ≤ length (leading f l) → (n < length l → f (get_or l n End) ≡ None) → n ≡ length (leading f l)
-
-  all_first : (s : Step) (t : List Step) → All t → (o : Option A) → f s ≡ o → (n : ℕ) → n ≤ length (one_more o (leading f t)) → (n < length (s ∷ t) → f (get_or (s ∷ t) n End) ≡ None) → n ≡ length (one_more o (leading f t))
-  unfolding one_more
-  all_first s t ih None e n h k = omega arith
-  all_first s t ih (Some b) e zero h k =
-      let none = k (omega arith) in
-      let apart : ◌≡◌ {A = ℕ} 0 1 = cc in absurd (omega arith)
-  all_first s t ih (Some b) e (suc n) h k = let more = ih n (omega arith) (λ i. k (omega arith)) in omega arith
-
-  leading_all : (l : List Step) → All l
-  unfolding leading
-  leading_all [] n h k = omega arith
-  leading_all (s ∷ t) n h k = all_first s t (leading_all t) (f s) refl n h k
-
   -- the same at a node i
   module _ (ws : List ℕ) (i : ℕ) where
     pub read_there : (n : ℕ) → n < length (leading f (steps_from ws i)) → i + n < length (steps_in ws)
@@ -72,30 +47,12 @@ module _ {A : Type 0} (f : Step → Option A) (d : A) where
     pub read_is : (n : ℕ) (x : Step) → n < length (leading f (steps_from ws i)) → At ws (i + n) x → f x ≡ Some (get_or (leading f (steps_from ws i)) n d)
     read_is n x h at = ap f (at.is ∙ sym (from_get_d ws i n)) ∙ (leading_there (steps_from ws i) n h).1
 
-    -- counted up to the node j
-    module _ (j : ℕ) (low : i ≤ j) (some : j - i ≤ length (leading f (steps_from ws i))) where
-      step_there : (x : Step) → At ws j x → f (get_or (steps_from ws i) (j - i) End) ≡ f x
-      step_there x at =
-          let there : i + (j - i) ≡ j = omega arith in
-          ap f (from_get_d ws i (j - i) ∙ (ap (λ k. get_or (steps_in ws) k End) there ∙ sym at.is))
-
-      pub count_more : (x : Step) (a : A) → At ws j x → f x ≡ Some a → j + 1 - i ≤ length (leading f (steps_from ws i))
-      count_more x a at e =
-          let inside : j - i < length (steps_from ws i) = omega (arith, length_from ws i, at.there) in
-          let more = leading_more (steps_from ws i) (j - i) a some inside (step_there x at ∙ e) in omega arith
-
-      pub count_all : (x : Step) → At ws j x → f x ≡ None → j - i ≡ length (leading f (steps_from ws i))
-      count_all x at e = leading_all (steps_from ws i) (j - i) some (λ h. step_there x at ∙ e)
-
-      pub count_past : length (steps_in ws) ≤ j → j - i ≡ length (leading f (steps_from ws i))
-      count_past past = leading_all (steps_from ws i) (j - i) some (λ h. absurd (omega (arith, length_from ws i)))
-
 -- what is an item, what is a slice
 pub item_in_item : (x : Step) (k : ℕ) → x ≡ Item k → item_in x ≡ Some k
 unfolding item_in
 item_in_item x k e = ap item_in e
 
-pub slice_in_slice : (x : Step) (p : Part) → x ≡ Slice p.from p.backward p.step p.many → slice_in x ≡ Some p
+pub slice_in_slice : (x : Step) (p : Part) → x ≡ Slice (slice_of p) → slice_in x ≡ Some p
 unfolding slice_in
 slice_in_slice x p e = ap slice_in e
 
@@ -121,9 +78,9 @@ item_in_other Cut no_item = refl
 item_in_other (Join x) no_item = refl
 item_in_other Rows no_item = refl
 item_in_other (Item k) no_item = absurd (no_item k refl)
-item_in_other (Slice f b s m) no_item = refl
+item_in_other (Slice s) no_item = refl
 
-pub slice_in_other : (x : Step) → ((f : ℕ) (b : Bool) (s m : ℕ) → x ≡ Slice f b s m → ⊥) → slice_in x ≡ None
+pub slice_in_other : (x : Step) → ((s : Sliced) → x ≡ Slice s → ⊥) → slice_in x ≡ None
 unfolding slice_in
 slice_in_other End no_slice = refl
 slice_in_other (Let k) no_slice = refl
@@ -145,7 +102,7 @@ slice_in_other Cut no_slice = refl
 slice_in_other (Join x) no_slice = refl
 slice_in_other Rows no_slice = refl
 slice_in_other (Item k) no_slice = refl
-slice_in_other (Slice f b s m) no_slice = absurd (no_slice f b s m refl)
+slice_in_other (Slice s) no_slice = absurd (no_slice s refl)
 
 no_items_first : (e : Expr ℕ) (r : List Step) → leading item_in (spell e r) ≡ []
 unfolding leading item_in spell
@@ -215,3 +172,28 @@ slices_stand_operand ws i st =
 
 pub slices_skipped : (ws : List ℕ) (i : ℕ) → SkipsSlices ws i (i + length (slices_at ws i))
 slices_skipped ws i = record { on = λ ps e r h. slices_behind ws i ps e r h }
+
+-- how many of the first steps give something
+prefix_first : {A : Type 0} (o : Option A) (n : ℕ) (l : List A) → n ≡ length l → cond (is_some o) (1 + n) 0 ≡ length (one_more o l)
+unfolding one_more
+prefix_first None n l e = refl
+prefix_first (Some a) n l e = omega arith
+
+pub prefix_leading : {A : Type 0} (f : Step → Option A) (l : List Step) → prefix_len (λ s. is_some (f s)) l ≡ length (leading f l)
+unfolding leading
+prefix_leading f [] = refl
+prefix_leading f (s ∷ t) = prefix_first (f s) (prefix_len (λ x. is_some (f x)) t) (leading f t) (prefix_leading f t)
+
+-- what is read of the step at a place among them
+pub read_some : {A : Type 0} (f : Step → Option A) (d : A) (ws : List ℕ) (i n : ℕ) → n < length (leading f (steps_from ws i)) → (o : Option Step) → MatchOption o (length (steps_in ws) ≤ i + n) (λ x. At ws (i + n) x) → (r : Option A) → MatchOption o (r ≡ None) (λ x. r ≡ f x) → r ≡ Some (get_or (leading f (steps_from ws i)) n d)
+read_some f d ws i n h None past r e = absurd (omega (arith, read_there f d ws i n h))
+read_some f d ws i n h (Some x) at r e = e ∙ read_is f d ws i n x h at
+
+-- what the steps that are left give, one after another
+pub steps_yield : (s : Steps) (l : List Step) → steps_left s ≡ l → YieldsList Gives (λ x. x) s l
+steps_yield s l e =
+    rw (← e)
+    (YieldsList-from_shown Gives (λ x. x) steps_left
+    (λ s t g. omega (arith, length_from s.words.now s.node, g.0))
+    (λ s x t g. from_at s.words.now s.node x g.0 ∙ ap (λ l. x ∷ l) (ap (λ w. steps_from w.now (s.node + 1)) (sym g.1) ∙ ap (λ n. steps_from t.words.now n) (sym g.2)))
+    s)

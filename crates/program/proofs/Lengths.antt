@@ -4,6 +4,7 @@ use Rattle.std.proofs.lemmas.List.{drop_at}
 use Rattle.semantics.specs.Parts.{Part}
 use Rattle.semantics.specs.Values.{Expr, name, input, constant, count, each, both, choose, fold, scan, shape_to, turn, part, join, rows}
 use Rattle.semantics.specs.Programs.{Program, end, be, put, show, again}
+use Rattle.semantics.specs.Slices.{slice_of}
 use Rattle.program.specs.declared.step.Step.{Step}
 use Rattle.program.specs.declared.step.Step.TheVariants.{End, Let, Put, Show, Again, Each, Both, Choose, Fold, Scan, Shape, Turn, Part as Cut, Join, Rows, Item, Slice}
 use Rattle.program.specs.Spelling.{items, slices, spell, spell_program}
@@ -73,7 +74,7 @@ items_append (k ∷ ks) r q = ap (λ l. Item k ∷ l) (items_append ks r q)
 pub slices_append : (ps : List Part) (r q : List Step) → slices ps (r ++ q) ≡ slices ps r ++ q
 unfolding slices
 slices_append [] r q = refl
-slices_append (p ∷ ps) r q = ap (λ l. Slice p.from p.backward p.step p.many ∷ l) (slices_append ps r q)
+slices_append (p ∷ ps) r q = ap (λ l. Slice (slice_of p) ∷ l) (slices_append ps r q)
 
 pub spell_append : (e : Expr ℕ) (r q : List Step) → spell e (r ++ q) ≡ spell e r ++ q
 unfolding spell

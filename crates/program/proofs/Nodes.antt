@@ -6,6 +6,8 @@ use Rattle.semantics.specs.declared.operation.Binary.{Binary}
 use Rattle.semantics.specs.Parts.{Part}
 use Rattle.semantics.specs.Values.{Expr}
 use Rattle.semantics.specs.Programs.{Program, end}
+use Rattle.semantics.specs.Slices.{slice_of}
+use Rattle.semantics.specs.declared.slice.Slice.{Slice as Sliced}
 use Rattle.program.specs.declared.step.Step.{Step}
 use Rattle.program.specs.declared.step.Step.TheVariants.{End, Let, Put, Show, Again, Each, Both, Choose, Fold, Scan, Shape, Turn, Part as Cut, Join, Rows, Item, Slice}
 use Rattle.program.specs.Spelling.{items, slices, spell, spell_program}
@@ -229,28 +231,28 @@ module _ (ws : List ℕ) (i : ℕ) (x : Step) (at : At ws i x) where
   items_operand ne st =
       record { expr = st.expr; rest = st.rest; enc = (no_items ne st.list st.expr st.rest st.enc).1 }
 
-  pub first_slice : {p : Part} → x ≡ Slice p.from p.backward p.step p.many → (ps : List Part) (e : Expr ℕ) (r : List Step) → steps_from ws i ≡ slices ps (spell e r) → FirstSlice p ps (spell e r) (steps_from ws (i + 1))
+  pub first_slice : {p : Part} → x ≡ Slice (slice_of p) → (ps : List Part) (e : Expr ℕ) (r : List Step) → steps_from ws i ≡ slices ps (spell e r) → FirstSlice p ps (spell e r) (steps_from ws (i + 1))
   unfolding slices
   first_slice {p} is ps e r h = go ps (from_read is h)
     where
-      go : (ps : List Part) → slices ps (spell e r) ≡ Slice p.from p.backward p.step p.many ∷ steps_from ws (i + 1) → FirstSlice p ps (spell e r) (steps_from ws (i + 1))
+      go : (ps : List Part) → slices ps (spell e r) ≡ Slice (slice_of p) ∷ steps_from ws (i + 1) → FirstSlice p ps (spell e r) (steps_from ws (i + 1))
       go [] h = absurd (opens (view_spell e r _ _ h))
       go (a ∷ others) h = record { others = others; list = ap (λ b. b ∷ others) (same_part a p (cons_first h)); enc = sym (cons_rest h) }
 
-  pub no_slices : ((f : ℕ) (b : Bool) (s m : ℕ) → x ≡ Slice f b s m → ⊥) → (ps : List Part) (e : Expr ℕ) (r : List Step) → steps_from ws i ≡ slices ps (spell e r) → (ps ≡ []) × (steps_from ws i ≡ spell e r)
+  pub no_slices : ((s : Sliced) → x ≡ Slice s → ⊥) → (ps : List Part) (e : Expr ℕ) (r : List Step) → steps_from ws i ≡ slices ps (spell e r) → (ps ≡ []) × (steps_from ws i ≡ spell e r)
   unfolding slices
   no_slices ne ps e r h = go ps h
     where
       go : (ps : List Part) → steps_from ws i ≡ slices ps (spell e r) → (ps ≡ []) × (steps_from ws i ≡ spell e r)
       go [] h = (refl, h)
-      go (a ∷ others) h = absurd (ne a.from a.backward a.step a.many (cons_first (sym (from_at ws i x at) ∙ h)))
+      go (a ∷ others) h = absurd (ne (slice_of a) (cons_first (sym (from_at ws i x at) ∙ h)))
 
-  pub slice_rest : {p : Part} → x ≡ Slice p.from p.backward p.step p.many → SlicesStand ws i → SlicesStand ws (i + 1)
+  pub slice_rest : {p : Part} → x ≡ Slice (slice_of p) → SlicesStand ws i → SlicesStand ws (i + 1)
   slice_rest {p} is st =
       let first = first_slice {p = p} is st.parts st.expr st.rest st.enc in
       record { parts = first.others; expr = st.expr; rest = st.rest; enc = first.enc }
 
-  pub slices_operand : ((f : ℕ) (b : Bool) (s m : ℕ) → x ≡ Slice f b s m → ⊥) → SlicesStand ws i → Stands ws i
+  pub slices_operand : ((s : Sliced) → x ≡ Slice s → ⊥) → SlicesStand ws i → Stands ws i
   slices_operand ne st =
       record { expr = st.expr; rest = st.rest; enc = (no_slices ne st.parts st.expr st.rest st.enc).1 }
 

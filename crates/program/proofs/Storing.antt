@@ -1,5 +1,5 @@
 -- Steps in words: how many, which one stands at a node, and what storing one leaves.
-use Rattle.std.proofs.Common.{◌≡◌, ℕ, ◌+◌, ◌-◌, ◌*◌, ◌/◌, ◌<◌, ◌≤◌, true, false, ◌≢◌, List, [], ◌∷◌, ◌++◌, length, get_or, take, drop, set, Some, sym, refl, ap, ◌∙◌, inl, inr, add-zero, zero-add, arith, length-append, length-drop, length-set}
+use Rattle.std.proofs.Common.{◌≡◌, ℕ, ◌+◌, ◌-◌, ◌*◌, ◌/◌, ◌<◌, ◌≤◌, Bool, true, false, ◌≢◌, List, [], ◌∷◌, ◌++◌, length, get_or, take, drop, set, Some, sym, refl, ap, ◌∙◌, inl, inr, add-zero, zero-add, arith, length-append, length-drop, length-set}
 use native.Mathlib.Nat.{div-add-mod}
 use borrow.Rule.Slice.PartMut.{put_mid}
 use Rattle.std.proofs.lemmas.List.FromFn.{length-map-range_with_len, get_or-map-range_with_len}
@@ -12,7 +12,7 @@ use Rattle.semantics.specs.declared.operation.Unary.{Unary}
 use Rattle.semantics.specs.declared.operation.Unary.TheVariants.{Neg, Abs, Sqrt, Floor, Not}
 use Rattle.semantics.specs.declared.operation.Binary.{Binary}
 use Rattle.semantics.specs.declared.operation.Binary.TheVariants.{Add, Sub, Mul, Div, Less, Same, Least, Most}
-use Rattle.program.specs.Words.{words_of, step_of, unary_of, unary_code, binary_of, binary_code, step_in, place_in, steps_in, places_in, Stored}
+use Rattle.program.specs.Words.{sliced, slice_tag, words_of, step_of, unary_of, unary_code, binary_of, binary_code, step_in, place_in, steps_in, places_in, Stored}
 
 -- as many as the words have fifths
 pub length_steps_in : (ws : List ℕ) → length (steps_in ws) ≡ length ws / 5
@@ -49,6 +49,10 @@ binary_back Same = refl
 binary_back Least = refl
 binary_back Most = refl
 
+slice_back : (b : Bool) (f s m : ℕ) → step_of (slice_tag b) f s m ≡ sliced f b s m
+slice_back false f s m = refl
+slice_back true f s m = refl
+
 -- the step of its own words is the step
 step_back : (s : Step) (p : ℕ) → step_of (get_or (words_of s p) 0 0) (get_or (words_of s p) 2 0) (get_or (words_of s p) 3 0) (get_or (words_of s p) 4 0) ≡ s
 step_back End p = refl
@@ -71,8 +75,7 @@ step_back Part p = refl
 step_back (Join x) p = refl
 step_back Rows p = refl
 step_back (Item k) p = refl
-step_back (Slice from false by many) p = refl
-step_back (Slice from true by many) p = refl
+step_back (Slice s) p = slice_back s.backward s.from s.step s.many
 
 -- read from its own words, a step is itself
 pub step_of_words : (s : Step) (p : ℕ) → step_in (words_of s p) 0 ≡ s
@@ -100,7 +103,7 @@ place_of_words Part p = refl
 place_of_words (Join x) p = refl
 place_of_words Rows p = refl
 place_of_words (Item k) p = refl
-place_of_words (Slice from backward by many) p = refl
+place_of_words (Slice s) p = refl
 
 pub length_words_of : (s : Step) (p : ℕ) → length (words_of s p) ≡ 5
 length_words_of End p = refl
@@ -123,7 +126,7 @@ length_words_of Part p = refl
 length_words_of (Join x) p = refl
 length_words_of Rows p = refl
 length_words_of (Item k) p = refl
-length_words_of (Slice from backward by many) p = refl
+length_words_of (Slice s) p = refl
 
 step_of_same : {t u a d b e c f : ℕ} → t ≡ u → a ≡ d → b ≡ e → c ≡ f → step_of t a b c ≡ step_of u d e f
 step_of_same {t} {u} {a} {d} {b} {e} {c} {f} p q r s =
@@ -292,3 +295,17 @@ module _ (ws : List ℕ) (n : ℕ) (there : 5 * n ≤ length ws) where
       let in-front : k < length (take (5 * n) ws) / 5 = omega (arith, front_length) in
       let in_all : k < length ws / 5 = omega arith in
       places_in_at (take (5 * n) ws) k in-front ∙ (place_in_take k low ∙ (sym (places_in_at ws k in_all) ∙ sym (get_or-take n (places_in ws) k 0 low))))
+
+-- the five words of a step, as they are read
+pub word_at : (ws : List ℕ) (k j : ℕ) → j < 5 → get_or (take 5 (drop (5 * k) ws)) j 0 ≡ get_or ws (5 * k + j) 0
+word_at ws k j h = get_or-take 5 (drop (5 * k) ws) j 0 h ∙ get_or-drop (5 * k) ws j 0
+
+pub step_of_five : (ws : List ℕ) (k : ℕ) (five : List ℕ) → five ≡ take 5 (drop (5 * k) ws) → step_of (get_or five 0 0) (get_or five 2 0) (get_or five 3 0) (get_or five 4 0) ≡ step_in ws k
+unfolding step_in
+step_of_five ws k five e =
+    ap (λ xs. step_of (get_or xs 0 0) (get_or xs 2 0) (get_or xs 3 0) (get_or xs 4 0)) e
+    ∙ step_of_same (word_at ws k 0 (omega arith) ∙ ap (λ n. get_or ws n 0) (add-zero (5 * k))) (word_at ws k 2 (omega arith)) (word_at ws k 3 (omega arith)) (word_at ws k 4 (omega arith))
+
+pub place_of_five : (ws : List ℕ) (k : ℕ) (five : List ℕ) → five ≡ take 5 (drop (5 * k) ws) → get_or five 1 0 ≡ place_in ws k
+unfolding place_in
+place_of_five ws k five e = ap (λ xs. get_or xs 1 0) e ∙ word_at ws k 1 (omega arith)

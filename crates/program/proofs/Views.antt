@@ -5,6 +5,7 @@ use Rattle.semantics.specs.declared.operation.Binary.{Binary}
 use Rattle.semantics.specs.Parts.{Part}
 use Rattle.semantics.specs.Values.{Expr, name, input, constant, count, each, both, choose, fold, scan, shape_to, turn, part, join, rows}
 use Rattle.semantics.specs.Programs.{Program, end, be, put, show, again}
+use Rattle.semantics.specs.Slices.{part_of, slice_of}
 use Rattle.program.specs.declared.step.Step.{Step}
 use Rattle.program.specs.declared.step.Step.TheVariants.{End, Let, Put, Show, Again, Name, Input, Constant, Count, Each, Both, Choose, Fold, Scan, Shape, Turn, Part as Cut, Join, Rows, Item, Slice}
 use Rattle.program.specs.Spelling.{items, slices, spell, spell_program}
@@ -20,19 +21,8 @@ pub cons_nil : {A : Type 0} {x : A} {xs : List A} → x ∷ xs ≡ [] → ⊥
 cons_nil h = let z : ◌≡◌ {A = ℕ} 0 1 = cc in omega arith
 
 -- slices tell their part
-part_of : ℕ → Bool → ℕ → ℕ → Part
-part_of f b s m = record { from = f; backward = b; step = s; many = m }
-
-pub same_part : (p q : Part) → Slice p.from p.backward p.step p.many ≡ Slice q.from q.backward q.step q.many → p ≡ q
-unfolding part_of
-same_part p q h =
-    let a : p.from ≡ q.from = cc in
-    let b : p.backward ≡ q.backward = cc in
-    let c : p.step ≡ q.step = cc in
-    let d : p.many ≡ q.many = cc in
-    ap (λ x. part_of x p.backward p.step p.many) a
-    ∙ (ap (λ x. part_of q.from x p.step p.many) b
-    ∙ (ap (λ x. part_of q.from q.backward x p.many) c ∙ ap (λ x. part_of q.from q.backward q.step x) d))
+pub same_part : (p q : Part) → Slice (slice_of p) ≡ Slice (slice_of q) → p ≡ q
+same_part p q h = let same : slice_of p ≡ slice_of q = cc in ap part_of same
 
 -- a family at a first step, carried over to the step that is equal
 at_first : {x s : Step} {xs t : List Step} (F : Step → Type 0) → x ∷ xs ≡ s ∷ t → (t ≡ xs → F x) → F s
@@ -155,7 +145,7 @@ no_expr Cut o not-name not-input not-constant not-count not-each not-both not-ch
 no_expr (Join x) o not-name not-input not-constant not-count not-each not-both not-choose not-fold not-scan not-shape not-turn not-cut not-join not-rows = not-join x refl
 no_expr Rows o not-name not-input not-constant not-count not-each not-both not-choose not-fold not-scan not-shape not-turn not-cut not-join not-rows = not-rows refl
 no_expr (Item k) o not-name not-input not-constant not-count not-each not-both not-choose not-fold not-scan not-shape not-turn not-cut not-join not-rows = absurd o
-no_expr (Slice f b s m) o not-name not-input not-constant not-count not-each not-both not-choose not-fold not-scan not-shape not-turn not-cut not-join not-rows = absurd o
+no_expr (Slice s) o not-name not-input not-constant not-count not-each not-both not-choose not-fold not-scan not-shape not-turn not-cut not-join not-rows = absurd o
 
 pub no_line : (x : Step) → OpensLine x → (x ≡ End → ⊥) → ((k : ℕ) → x ≡ Let k → ⊥) → ((k : ℕ) → x ≡ Put k → ⊥) → (x ≡ Show → ⊥) → ((n : ℕ) → x ≡ Again n → ⊥) → ⊥
 no_line End o not_end not-let not_put not-show not-again = not_end refl
@@ -178,4 +168,4 @@ no_line Cut o not_end not-let not_put not-show not-again = absurd o
 no_line (Join x) o not_end not-let not_put not-show not-again = absurd o
 no_line Rows o not_end not-let not_put not-show not-again = absurd o
 no_line (Item k) o not_end not-let not_put not-show not-again = absurd o
-no_line (Slice f b s m) o not_end not-let not_put not-show not-again = absurd o
+no_line (Slice s) o not_end not-let not_put not-show not-again = absurd o

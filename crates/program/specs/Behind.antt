@@ -27,7 +27,7 @@ awaits Part = 1
 awaits (Join x) = 2
 awaits Rows = 2
 awaits (Item k) = 1
-awaits (Slice f b s m) = 1
+awaits (Slice s) = 1
 
 -- behind n expressions
 unfoldable pub behind : ℕ → List Step → Option (List Step)

@@ -32,7 +32,7 @@ bracket Part = neither
 bracket (Join x) = neither
 bracket Rows = neither
 bracket (Item k) = neither
-bracket (Slice f b s m) = neither
+bracket (Slice s) = neither
 
 -- on behind a step, with d lines inside still open: t is behind it
 unfoldable pub past : Bracket → ℕ → List Step → (ℕ → Option (List Step)) → Option (List Step)

@@ -1,18 +1,10 @@
 -- The items, and the slices, that steps begin with.
-use Rattle.std.specs.Prelude.{ℕ, false, List, [], ◌∷◌, Some, None, Option}
+use Rattle.std.specs.Prelude.{ℕ, List, [], ◌∷◌, Some, None, Option}
 use Rattle.semantics.specs.Parts.{Part}
 use Rattle.program.specs.declared.step.Step.{Step}
 use Rattle.program.specs.declared.step.Step.TheVariants.{End, Let, Put, Show, Again, Name, Input, Constant, Count, Each, Both, Choose, Fold, Scan, Shape, Turn, Part as Cut, Join, Rows, Item, Slice as Sliced}
-use Rattle.program.specs.declared.slice.Slice.{Slice}
+use Rattle.semantics.specs.Slices.{part_of}
 use Rattle.program.specs.Standing.{steps_from}
-
--- the part of the meaning that a slice stands for
-abbrev pub part_of : Slice → Part
-part_of s = record { from = s.from; backward = s.backward; step = s.step; many = s.many }
-
--- what stands where there is no slice
-abbrev pub no_part : Part
-no_part = record { from = 0; backward = false; step = 0; many = 0 }
 
 unfoldable pub item_in : Step → Option ℕ
 item_in End = None
@@ -35,7 +27,7 @@ item_in Cut = None
 item_in (Join x) = None
 item_in Rows = None
 item_in (Item k) = Some k
-item_in (Sliced from backward step many) = None
+item_in (Sliced s) = None
 
 unfoldable pub slice_in : Step → Option Part
 slice_in End = None
@@ -58,7 +50,7 @@ slice_in Cut = None
 slice_in (Join x) = None
 slice_in Rows = None
 slice_in (Item k) = None
-slice_in (Sliced from backward step many) = Some (record { from = from; backward = backward; step = step; many = many })
+slice_in (Sliced s) = Some (part_of s)
 
 unfoldable pub one_more : {A : Type 0} → Option A → List A → List A
 one_more None l = []

@@ -2,6 +2,7 @@ pub mod Spelling
 pub mod Marks
 pub mod Words
 pub mod Standing
+pub mod Steps
 pub mod Leading
 pub mod Behind
 pub mod Closing

@@ -79,7 +79,7 @@ FitsWords Cut = Unit {0}
 FitsWords (Join x) = x < 2 ^ 32
 FitsWords Rows = Unit {0}
 FitsWords (Item k) = k < 2 ^ 32
-FitsWords (Slice from backward step many) = (from < 2 ^ 32) × (step < 2 ^ 32) × (many < 2 ^ 32)
+FitsWords (Slice s) = (s.from < 2 ^ 32) × (s.step < 2 ^ 32) × (s.many < 2 ^ 32)
 
 pub data FitAll : List Step → Type 0 where
   fit_none : FitAll []

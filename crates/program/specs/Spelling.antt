@@ -3,6 +3,7 @@ use Rattle.std.specs.Prelude.{ℕ, List, [], ◌∷◌}
 use Rattle.semantics.specs.Parts.{Part}
 use Rattle.semantics.specs.Values.{Expr, name, input, constant, count, each, both, choose, fold, scan, shape_to, turn, part, join, rows}
 use Rattle.semantics.specs.Programs.{Program, end, be, put, show, again}
+use Rattle.semantics.specs.Slices.{slice_of}
 use Rattle.program.specs.declared.step.Step.{Step}
 use Rattle.program.specs.declared.step.Step.TheVariants.{End, Let, Put, Show, Again, Name, Input, Constant, Count, Each, Both, Choose, Fold, Scan, Shape, Turn, Part as Cut, Join, Rows, Item, Slice}
 
@@ -12,7 +13,7 @@ items (k ∷ ks) r = Item k ∷ items ks r
 
 unfoldable pub slices : List Part → List Step → List Step
 slices [] r = r
-slices (p ∷ ps) r = Slice p.from p.backward p.step p.many ∷ slices ps r
+slices (p ∷ ps) r = Slice (slice_of p) ∷ slices ps r
 
 unfoldable pub spell : Expr ℕ → List Step → List Step
 unfolding items slices

@@ -5,6 +5,7 @@ use Rattle.semantics.specs.declared.operation.Binary.{Binary}
 use Rattle.semantics.specs.Parts.{Part}
 use Rattle.semantics.specs.Values.{Expr, name, input, constant, count, each, both, choose, fold, scan, shape_to, turn, part, join, rows}
 use Rattle.semantics.specs.Programs.{Program, end, be, put, show, again}
+use Rattle.semantics.specs.Slices.{slice_of}
 use Rattle.program.specs.declared.step.Step.{Step}
 use Rattle.program.specs.declared.step.Step.TheVariants.{End, Let, Put, Show, Again, Name, Input, Constant, Count, Each, Both, Choose, Fold, Scan, Shape, Turn, Part as Cut, Join, Rows, Item, Slice}
 use Rattle.program.specs.Spelling.{items, slices, spell, spell_program}
@@ -93,7 +94,7 @@ Opens Cut = Unit {0}
 Opens (Join x) = Unit {0}
 Opens Rows = Unit {0}
 Opens (Item k) = ⊥
-Opens (Slice f b s m) = ⊥
+Opens (Slice s) = ⊥
 
 -- items and slices by the first step: q is behind them, t behind the step
 pub data ItemsView (q t : List Step) : List ℕ → Step → Type 0 where
@@ -101,7 +102,7 @@ pub data ItemsView (q t : List Step) : List ℕ → Step → Type 0 where
   no_item : {s : Step} → Opens s → q ≡ s ∷ t → ItemsView q t [] s
 
 pub data SlicesView (q t : List Step) : List Part → Step → Type 0 where
-  slice : {p : Part} {ps : List Part} → t ≡ slices ps q → SlicesView q t (p ∷ ps) (Slice p.from p.backward p.step p.many)
+  slice : {p : Part} {ps : List Part} → t ≡ slices ps q → SlicesView q t (p ∷ ps) (Slice (slice_of p))
   no_slice : {s : Step} → Opens s → q ≡ s ∷ t → SlicesView q t [] s
 
 -- a list with an item or a slice first: q is behind it, t behind its first step
@@ -145,4 +146,4 @@ OpensLine Cut = ⊥
 OpensLine (Join x) = ⊥
 OpensLine Rows = ⊥
 OpensLine (Item k) = ⊥
-OpensLine (Slice f b s m) = ⊥
+OpensLine (Slice s) = ⊥

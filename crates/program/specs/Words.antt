@@ -53,7 +53,10 @@ words_of Part p = 16 ∷ p ∷ 0 ∷ 0 ∷ 0 ∷ []
 words_of (Join x) p = 17 ∷ p ∷ x ∷ 0 ∷ 0 ∷ []
 words_of Rows p = 18 ∷ p ∷ 0 ∷ 0 ∷ 0 ∷ []
 words_of (Item k) p = 19 ∷ p ∷ k ∷ 0 ∷ 0 ∷ []
-words_of (Slice from backward step many) p = slice_tag backward ∷ p ∷ from ∷ step ∷ many ∷ []
+words_of (Slice s) p = slice_tag s.backward ∷ p ∷ s.from ∷ s.step ∷ s.many ∷ []
+
+abbrev pub sliced : ℕ → Bool → ℕ → ℕ → Step
+sliced from backward step many = Slice (record { from = from; backward = backward; step = step; many = many })
 
 -- back: an operation of a code, or none
 abbrev pub unary_of : ℕ → Option Unary
@@ -90,8 +93,8 @@ step_of tag a b c =
     ∷ Join a
     ∷ Rows
     ∷ Item a
-    ∷ Slice a false b c
-    ∷ Slice a true b c
+    ∷ sliced a false b c
+    ∷ sliced a true b c
     ∷ [])
     tag
     End

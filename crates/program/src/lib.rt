@@ -3,6 +3,6 @@
 
 pub mod laws;
 pub mod lists;
-pub mod slice;
 pub mod step;
+pub mod steps;
 pub mod words;

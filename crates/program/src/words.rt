@@ -1,70 +1,71 @@
 // Steps in words: five words a step, one step after another from word 0.
-ghost use Rattle.std.specs.Prelude.{◌≡◌, ◌/◌, ◌<◌, ◌≤◌, length, None, MatchOption};
+ghost use Rattle.std.specs.Prelude.{◌≡◌, ◌*◌, ◌/◌, ◌<◌, ◌≤◌, length, take, drop, None, MatchOption};
 ghost use Rattle.program.specs.Standing.{steps_from};
 ghost use Rattle.program.specs.Closing.{closing, EndsAt};
 ghost use Rattle.program.specs.Behind.{awaits, behind, BehindAt};
-ghost use Rattle.program.specs.Words.{unary_code, binary_code, unary_of, binary_of, words_of, step_of, steps_in, place_in, At, Stores};
+ghost use Rattle.program.specs.Words.{unary_code, binary_code, unary_of, binary_of, sliced, words_of, step_of, steps_in, place_in, At, Stores};
 
 use crate::step::Step;
+use crate::steps::Steps;
 use semantics::operation::{Binary, Unary};
+use semantics::slice::Slice;
 
 // How many words a step takes.
 pub const STEP_WORDS: usize = 5;
 
+// The operations in the order of their codes.
+const UNARIES: [Unary; 5] = [
+    Unary::Neg,
+    Unary::Abs,
+    Unary::Sqrt,
+    Unary::Floor,
+    Unary::Not,
+];
+
+const BINARIES: [Binary; 8] = [
+    Binary::Add,
+    Binary::Sub,
+    Binary::Mul,
+    Binary::Div,
+    Binary::Less,
+    Binary::Same,
+    Binary::Least,
+    Binary::Most,
+];
+
 fn find_unary(code: u32) -> Option<Unary>
     ensures { result ≡ unary_of code }
 {
-    match code {
-        0 => Some(Unary::Neg),
-        1 => Some(Unary::Abs),
-        2 => Some(Unary::Sqrt),
-        3 => Some(Unary::Floor),
-        4 => Some(Unary::Not),
-        _ => None,
-    }
+    UNARIES.get(code as usize).copied()
 }
 
 fn find_binary(code: u32) -> Option<Binary>
     ensures { result ≡ binary_of code }
 {
-    match code {
-        0 => Some(Binary::Add),
-        1 => Some(Binary::Sub),
-        2 => Some(Binary::Mul),
-        3 => Some(Binary::Div),
-        4 => Some(Binary::Less),
-        5 => Some(Binary::Same),
-        6 => Some(Binary::Least),
-        7 => Some(Binary::Most),
-        _ => None,
-    }
+    BINARIES.get(code as usize).copied()
 }
 
 fn code_unary(k: Unary) -> u32
     ensures { result ≡ unary_code k }
 {
-    match k {
-        Unary::Neg => 0,
-        Unary::Abs => 1,
-        Unary::Sqrt => 2,
-        Unary::Floor => 3,
-        Unary::Not => 4,
-    }
+    k as u32
 }
 
 fn code_binary(k: Binary) -> u32
     ensures { result ≡ binary_code k }
 {
-    match k {
-        Binary::Add => 0,
-        Binary::Sub => 1,
-        Binary::Mul => 2,
-        Binary::Div => 3,
-        Binary::Less => 4,
-        Binary::Same => 5,
-        Binary::Least => 6,
-        Binary::Most => 7,
-    }
+    k as u32
+}
+
+fn read_slice(from: u32, backward: bool, step: u32, many: u32) -> Step
+    ensures { result ≡ sliced from backward step many }
+{
+    Step::Slice(Slice {
+        from,
+        backward,
+        step,
+        many,
+    })
 }
 
 // The step of a tag and three numbers; `End` where there is none.
@@ -80,31 +81,19 @@ fn read_step(tag: u32, a: u32, b: u32, c: u32) -> Step
         6 => Step::Input(a),
         7 => Step::Constant(u64::from(a) + u64::from(b) * 4_294_967_296),
         8 => Step::Count(a),
-        9 => match find_unary(a) {
-            Some(k) => Step::Each(k),
-            None => Step::End,
-        },
-        10 => match find_binary(a) {
-            Some(k) => Step::Both(k),
-            None => Step::End,
-        },
+        9 => find_unary(a).map_or(Step::End, |k| Step::Each(k)),
+        10 => find_binary(a).map_or(Step::End, |k| Step::Both(k)),
         11 => Step::Choose,
-        12 => match find_binary(a) {
-            Some(k) => Step::Fold(k, b),
-            None => Step::End,
-        },
-        13 => match find_binary(a) {
-            Some(k) => Step::Scan(k, b),
-            None => Step::End,
-        },
+        12 => find_binary(a).map_or(Step::End, |k| Step::Fold(k, b)),
+        13 => find_binary(a).map_or(Step::End, |k| Step::Scan(k, b)),
         14 => Step::Shape,
         15 => Step::Turn,
         16 => Step::Part,
         17 => Step::Join(a),
         18 => Step::Rows,
         19 => Step::Item(a),
-        20 => Step::Slice(a, false, b, c),
-        21 => Step::Slice(a, true, b, c),
+        20 => read_slice(a, false, b, c),
+        21 => read_slice(a, true, b, c),
         _ => Step::End,
     }
 }
@@ -140,12 +129,12 @@ fn write_step(step: Step, place: u32) -> [u32; 5]
         Step::Join(x) => [17, place, x, 0, 0],
         Step::Rows => [18, place, 0, 0, 0],
         Step::Item(k) => [19, place, k, 0, 0],
-        Step::Slice(from, backward, by, many) => [
-            if backward { 21 } else { 20 },
+        Step::Slice(slice) => [
+            if slice.backward { 21 } else { 20 },
             place,
-            from,
-            by,
-            many,
+            slice.from,
+            slice.step,
+            slice.many,
         ],
     }
 }
@@ -158,28 +147,32 @@ pub fn count_steps(words: &[u32]) -> usize
     words.len() / STEP_WORDS
 }
 
+// The words of step `node`, or none where it is past the last.
+fn words_at(words: &[u32], node: usize) -> Option<[u32; STEP_WORDS]>
+    ensures { MatchOption result (length (steps_in words.now) ≤ node) (λ five. (node < length (steps_in words.now)) × (five ≡ take 5 (drop (5 * node) words.now))) }
+{
+    let (steps, _) = words.as_chunks();
+    steps.get(node).copied()
+}
+
 // Step `node`, or none where it is past the last.
 pub fn step_at(words: &[u32], node: usize) -> Option<Step>
     ensures { MatchOption result (length (steps_in words.now) ≤ node) (λ s. At words.now node s) }
 {
-    if node >= count_steps(words) {
-        return None;
-    }
-    let at = STEP_WORDS * node;
-    Some(read_step(words[at], words[at + 2], words[at + 3], words[at + 4]))
+    let [tag, _, a, b, c] = words_at(words, node)?;
+    Some(read_step(tag, a, b, c))
 }
 
 // Where the text of step `node` begins, or none where it is past the last.
 pub fn place_at(words: &[u32], node: usize) -> Option<u32>
     ensures { MatchOption result (length (steps_in words.now) ≤ node) (λ p. (node < length (steps_in words.now)) × (p ≡ place_in words.now node)) }
 {
-    if node >= count_steps(words) {
-        return None;
-    }
-    Some(words[STEP_WORDS * node + 1])
+    let [_, place, ..] = words_at(words, node)?;
+    Some(place)
 }
 
 // Stores a step and where its text begins at `node`; `false`, with nothing stored, where that is past the last.
+// Stays: nothing is known of what a slice holds after `as_chunks_mut` or `get_mut`.
 pub fn put_step(words: &mut [u32], node: usize, step: Step, place: u32) -> bool
     ensures { Stores words.old words.new node step place result }
 {
@@ -196,14 +189,13 @@ pub fn find_end(words: &[u32], node: usize) -> Option<usize>
     ensures { MatchOption result (closing 0 (steps_from words.now node) ≡ None) (λ j. EndsAt words.now node j) }
 {
     let mut inside: usize = 0;
-    let mut at = node;
-    while let Some(step) = step_at(words, at) {
-        at += 1;
+    let mut steps = Steps { words, node };
+    while let Some(step) = steps.next() {
         match step {
             Step::Again(_) => inside += 1,
             Step::End => {
                 if inside == 0 {
-                    return Some(at);
+                    return Some(steps.node);
                 }
                 inside -= 1;
             }
@@ -218,27 +210,25 @@ fn awaited(step: Step) -> usize
     ensures { result ≡ awaits step }
 {
     match step {
-        Step::Each(_) => 1,
-        Step::Both(_) => 2,
+        Step::End
+        | Step::Let(_)
+        | Step::Put(_)
+        | Step::Show
+        | Step::Again(_)
+        | Step::Name(_)
+        | Step::Input(_)
+        | Step::Constant(_)
+        | Step::Count(_) => 0,
+        Step::Each(_)
+        | Step::Fold(_, _)
+        | Step::Scan(_, _)
+        | Step::Shape
+        | Step::Turn
+        | Step::Part
+        | Step::Item(_)
+        | Step::Slice(_) => 1,
+        Step::Both(_) | Step::Join(_) | Step::Rows => 2,
         Step::Choose => 3,
-        Step::Fold(_, _) => 1,
-        Step::Scan(_, _) => 1,
-        Step::Shape => 1,
-        Step::Turn => 1,
-        Step::Part => 1,
-        Step::Join(_) => 2,
-        Step::Rows => 2,
-        Step::Item(_) => 1,
-        Step::Slice(_, _, _, _) => 1,
-        Step::End => 0,
-        Step::Let(_) => 0,
-        Step::Put(_) => 0,
-        Step::Show => 0,
-        Step::Again(_) => 0,
-        Step::Name(_) => 0,
-        Step::Input(_) => 0,
-        Step::Constant(_) => 0,
-        Step::Count(_) => 0,
     }
 }
 
@@ -247,13 +237,9 @@ pub fn find_behind(words: &[u32], node: usize) -> Option<usize>
     ensures { MatchOption result (behind 1 (steps_from words.now node) ≡ None) (λ j. BehindAt words.now node j) }
 {
     let mut wanted: usize = 1;
-    let mut at = node;
+    let mut steps = Steps { words, node };
     while wanted > 0 {
-        let Some(step) = step_at(words, at) else {
-            return None;
-        };
-        wanted = wanted - 1 + awaited(step);
-        at += 1;
+        wanted = wanted - 1 + awaited(steps.next()?);
     }
-    Some(at)
+    Some(steps.node)
 }

@@ -1,5 +1,5 @@
 -- Words that end in the common ways.
-use Rattle.std.proofs.Common.{◌≡◌, ℕ, ◌+◌, ◌<◌, ◌≤◌, true, false, not, ◌&&◌, ◌||◌, ltb, List, [], ◌∷◌, ◌++◌, length, get_or, take, Some, None, Option, sym, refl, ap, ◌∙◌, subst, arith}
+use Rattle.std.proofs.Common.{◌≡◌, ℕ, ◌<◌, ◌≤◌, true, false, not, ◌&&◌, ◌||◌, ltb, List, [], ◌∷◌, ◌++◌, length, get_or, take, Some, None, Option, sym, ap, ◌∙◌, subst, arith}
 use Rattle.std.specs.Option.{option_to_list}
 use Rattle.std.proofs.lemmas.List.{take_all, length-take-le, get_or-take}
 use Rattle.std.proofs.lemmas.Bool.{and_parts, or_parts, not-true}
@@ -15,11 +15,10 @@ use Rattle.grammar.proofs.NameLaws.{names_at, place_known}
 use Rattle.reader.specs.declared.machine.Machine.{Machine}
 use Rattle.reader.specs.declared.names.Span.{Span}
 use Rattle.reader.specs.Names.{part, spelling, spellings, KnownAs}
-use Rattle.reader.specs.Machines.{Good, Hinted, Replaced, EndedNow}
+use Rattle.reader.specs.Machines.{TopIs, Placed, Standing, EndedNow}
 use Rattle.reader.proofs.Spelled.{length_spellings, spelling_at}
 use Rattle.reader.proofs.Settling.{names_of, settled_by}
 use Rattle.reader.proofs.Noting.{hinted_same, never}
-use Rattle.reader.proofs.Skimming.{popped}
 
 -- KNOWN NAMES
 
@@ -67,39 +66,36 @@ module _ (ns : List Word) (w : Word) (k : ℕ) (known : KnownAs ns w k) where
 
 -- SETTLED BY THEM
 
-module _ (t : List ℕ) (i b : ℕ) (m : Machine) (good : Good i 16 m) (hinted : Hinted t i m) (there : m.top < 2112) (other : in_word b ≡ false) where
-  settled_old : (new : Machine) (s : Symbol) (step : Option Step) (p : List Symbol) → get_or m.stack m.top Symbol.Lines ≡ s → belongs s b ≡ false
+module _ (t : List ℕ) (i b : ℕ) (m : Machine) (on : Standing t i m) (other : in_word b ≡ false) where
+  settled_old : (new : Machine) (s : Symbol) (step : Option Step) (p : List Symbol) → TopIs m s → belongs s b ≡ false
       → ended (names_of t m) (option_to_list step) p ≡ ends (names_of t m) s (part t m.word i) m.value
-      → new.names ≡ m.names → new.count ≡ m.count → new.hints ≡ m.hints → Replaced m.stack m.top new.stack new.top p → length p ≤ 8 → new.word ≡ i → new.value ≡ 0 → new.clean ≡ false
-      → EndedNow t i b m new (record { step = step })
-  settled_old new s step p is ending k names count hints down short word value dirty =
+      → length p ≤ 8 → Placed m new p i → EndedNow t i b m new (record { step = step })
+  settled_old new s step p top ending k short placed =
       record {
         settled =
-            settled_by t i b m new (names_of t m) step p good there (sym (ap (λ y. belongs y b) is ∙ ending)) (k ∙ sym (ap (λ y. ends (names_of t m) y (part t m.word i) m.value) is))
-            (ap (λ n. spellings t (take n new.names)) count ∙ ap (λ ns. spellings t (take m.count ns)) names) (omega (arith, good.few)) (ap length names ∙ good.spans) down short word value;
-        hinted = hinted_same t i i m new hinted names count hints (λ is. never (sym dirty ∙ is));
+            settled_by t i b m new (names_of t m) step p on.good (omega (arith, top.there, on.good.wide)) (sym (ap (λ y. belongs y b) top.is ∙ ending)) (k ∙ sym (ap (λ y. ends (names_of t m) y (part t m.word i) m.value) top.is))
+            (ap (λ n. spellings t (take n new.names)) placed.count ∙ ap (λ ns. spellings t (take m.count ns)) placed.names) (omega (arith, on.good.few, placed.count)) (ap length placed.names ∙ on.good.spans) placed.down short placed.begins placed.value;
+        hinted = hinted_same t i i m new on.hinted placed.names placed.count placed.hints (λ is. never (sym placed.dirty ∙ is));
       }
 
-  pub name_settled : (k : ℕ) → get_or m.stack m.top Symbol.Lines ≡ Symbol.Word → KnownAs (names_of t m) (part t m.word i) k
-      → EndedNow t i b m (record { stack = m.stack; top = m.top + 1; names = m.names; count = m.count; word = i; value = 0; hints = m.hints; clean = false }) (record { step = Some (Step.Name k) })
+  pub name_settled : (k : ℕ) (new : Machine) → TopIs m Symbol.Word → KnownAs (names_of t m) (part t m.word i) k → Placed m new [] i → EndedNow t i b m new (record { step = Some (Step.Name k) })
   unfolding belongs
-  name_settled k is known =
-      settled_old _ Symbol.Word (Some (Step.Name k)) [] is other (known_word_ends (names_of t m) (part t m.word i) k known m.value) refl refl refl (popped m.stack m.top) (omega arith) refl refl refl
+  name_settled k new top known placed =
+      settled_old new Symbol.Word (Some (Step.Name k)) [] top other (known_word_ends (names_of t m) (part t m.word i) k known m.value) (omega arith) placed
 
-  pub head_settled : (h : Head) (n : ℕ) (step : Option Step) (stack : List Symbol) (top : ℕ) → get_or m.stack m.top Symbol.Lines ≡ Symbol.Word → Some h ≡ find head_word heads (part t m.word i)
-      → head_rest h ≡ operands n → option_to_list step ≡ head_step h → Replaced m.stack m.top stack top (Symbol.Byte 40 ∷ Symbol.Expr ∷ Symbol.Operands n ∷ [])
-      → EndedNow t i b m (record { stack = stack; top = top; names = m.names; count = m.count; word = i; value = 0; hints = m.hints; clean = false }) (record { step = step })
+  pub head_settled : (h : Head) (n : ℕ) (step : Option Step) (new : Machine) → TopIs m Symbol.Word → Some h ≡ find head_word heads (part t m.word i)
+      → head_rest h ≡ operands n → option_to_list step ≡ head_step h → Placed m new (Symbol.Byte 40 ∷ Symbol.Expr ∷ Symbol.Operands n ∷ []) i
+      → EndedNow t i b m new (record { step = step })
   unfolding belongs ends word_ends operands
-  head_settled h n step stack top is found rest says down =
-      settled_old _ Symbol.Word step (Symbol.Byte 40 ∷ Symbol.Expr ∷ Symbol.Operands n ∷ []) is other
+  head_settled h n step new top found rest says placed =
+      settled_old new Symbol.Word step (Symbol.Byte 40 ∷ Symbol.Expr ∷ Symbol.Operands n ∷ []) top other
       (ap (λ es. ended (names_of t m) es (Symbol.Byte 40 ∷ Symbol.Expr ∷ Symbol.Operands n ∷ [])) says
       ∙ (ap (λ p. ended (names_of t m) (head_step h) p) (sym rest) ∙ ap (word_ends (names_of t m) (part t m.word i)) found))
-      refl refl refl down (omega arith) refl refl refl
+      (omega arith) placed
 
-  pub let_settled : (x : Target) (k : ℕ) (stack : List Symbol) (top : ℕ) → get_or m.stack m.top Symbol.Lines ≡ Symbol.Target x → x ≡ Target.Let → KnownAs (names_of t m) (part t m.word i) k
-      → Replaced m.stack m.top stack top (Symbol.Byte 32 ∷ Symbol.Byte 61 ∷ Symbol.Byte 32 ∷ Symbol.Expr ∷ [])
-      → EndedNow t i b m (record { stack = stack; top = top; names = m.names; count = m.count; word = i; value = 0; hints = m.hints; clean = false }) (record { step = Some (Step.Let k) })
+  pub let_settled : (k : ℕ) (new : Machine) → TopIs m (Symbol.Target Target.Let) → KnownAs (names_of t m) (part t m.word i) k → Placed m new (target_rest Target.Let) i
+      → EndedNow t i b m new (record { step = Some (Step.Let k) })
   unfolding belongs ends target_step target_rest spelled
-  let_settled x k stack top is same known down =
-      settled_old _ (Symbol.Target Target.Let) (Some (Step.Let k)) (Symbol.Byte 32 ∷ Symbol.Byte 61 ∷ Symbol.Byte 32 ∷ Symbol.Expr ∷ []) (is ∙ ap Symbol.Target same) other
-      (known_ends (names_of t m) (part t m.word i) k known (λ n. target_step Target.Let n) (target_rest Target.Let)) refl refl refl down (omega arith) refl refl refl
+  let_settled k new top known placed =
+      settled_old new (Symbol.Target Target.Let) (Some (Step.Let k)) (target_rest Target.Let) top other
+      (known_ends (names_of t m) (part t m.word i) k known (λ n. target_step Target.Let n) (target_rest Target.Let)) (omega arith) placed

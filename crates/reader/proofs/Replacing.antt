@@ -5,8 +5,8 @@ use Rattle.std.proofs.lemmas.List.{length-take-le, length-append, length-drop, d
 use Rattle.grammar.specs.declared.symbol.Symbol.{Symbol}
 use Rattle.reader.specs.Machines.{Replaced}
 
-pub replaced_is : (xs ys s : List Symbol) (top len : ℕ) → len ≤ 8 → 7 ≤ top → top < length xs → ys ≡ s → length s ≡ len → Replaced xs top (put_mid (top + 1 - len) (top + 1 - (top + 1 - len)) xs ys) (top + 1 - len) s
-replaced_is xs ys s top len few room there same long =
+pub replaced_is : (xs ys s : List Symbol) (top len : ℕ) → len ≤ top + 1 → top < length xs → ys ≡ s → length s ≡ len → Replaced xs top (put_mid (top + 1 - len) (top + 1 - (top + 1 - len)) xs ys) (top + 1 - len) s
+replaced_is xs ys s top len room there same long =
     let low = top + 1 - len in
     let k = top + 1 - (top + 1 - len) in
     let front : length (take low xs) ≡ low = length-take-le low xs (omega arith) in

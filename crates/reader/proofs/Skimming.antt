@@ -1,6 +1,6 @@
 -- Bytes that say no step, read in place.
-use Rattle.std.proofs.Common.{◌≡◌, ℕ, ◌+◌, ◌-◌, ◌<◌, ◌≤◌, true, false, ◌&&◌, eqb, ltb, leb, List, [], ◌∷◌, ◌++◌, length, get_or, drop, set, None, sym, refl, ap, ◌∙◌, subst, arith}
-use Rattle.std.proofs.lemmas.List.{drop-set, length-set, length-take, length_push}
+use Rattle.std.proofs.Common.{◌≡◌, ℕ, ◌+◌, ◌-◌, ◌<◌, ◌≤◌, true, false, ◌&&◌, eqb, ltb, leb, List, [], ◌∷◌, ◌++◌, length, get_or, drop, None, sym, refl, ap, ◌∙◌, subst, arith}
+use Rattle.std.proofs.lemmas.List.{length-take, length_push}
 use Rattle.std.proofs.lemmas.Bool.{eq-eqb, ne_eqb, leb-true, lt-ltb, and_parts, and_from, or_right}
 use Rattle.semantics.specs.Shapes.{pick}
 use Rattle.grammar.specs.declared.symbol.Symbol.{Symbol}
@@ -12,28 +12,15 @@ use Rattle.reader.specs.declared.machine.Machine.{Machine}
 use Rattle.reader.specs.declared.turn.Mark.{Mark}
 use Rattle.reader.specs.Names.{part}
 use Rattle.reader.specs.Turning.{flag_of}
-use Rattle.reader.specs.Machines.{Good, Hinted, Replaced, Laid, LaidAll, Spells, in_expression, as_target, BetweenLines, outside, within, ReadOn}
+use Rattle.reader.specs.Machines.{Good, Replaced, TopIs, Placed, Spells, in_expression, as_target, BetweenLines, outside, within, Reading, ReadOn}
 use Rattle.reader.proofs.Turnings.{part_more, part_none, part_one, operands_more}
 use Rattle.reader.proofs.Spelled.{viable_room}
 use Rattle.reader.proofs.Settling.{names_of, few_used, top_is, settle_goes, turned_by}
 use Rattle.reader.proofs.Noting.{hinted_same, never}
 
-pub laid : (xs : List Symbol) (top : ℕ) (s : Symbol) → 0 < top → top ≤ length xs → Laid xs top (set xs (top - 1) s) (top - 1) s
-laid xs top s room there =
-    let up : top - 1 + 1 ≡ top = omega arith in
-    record { is = drop-set xs (top - 1) s (omega arith) ∙ ap (λ n. s ∷ drop n xs) up; down = up; long = length-set xs (top - 1) s }
-
--- one symbol less
-pub popped : (xs : List Symbol) (top : ℕ) → Replaced xs top xs (top + 1) []
-popped xs top = record { is = refl; down = omega arith; long = refl }
-
--- another symbol on top
-pub topped : (xs : List Symbol) (top : ℕ) (s : Symbol) → top < length xs → Replaced xs top (set xs top s) top (s ∷ [])
-topped xs top s there = record { is = drop-set xs top s there; down = omega arith; long = length-set xs top s }
-
 -- the topmost symbol as it was
-pub kept : (m : Machine) (s : Symbol) → m.top < length m.stack → get_or m.stack m.top Symbol.Lines ≡ s → Replaced m.stack m.top m.stack m.top (s ∷ [])
-kept m s there is = record { is = top_is m s there (sym is); down = omega arith; long = refl }
+pub kept : (m : Machine) (s : Symbol) → TopIs m s → Replaced m.stack m.top m.stack m.top (s ∷ [])
+kept m s top = record { is = top_is m s top.there (sym top.is); down = omega arith; long = refl }
 
 -- ONE BYTE MORE
 
@@ -80,30 +67,39 @@ unfolding moves line_move spelled
 between_let ns w v b outside e = sym (ap (λ x. moves ns Symbol.Lines w v x) e)
 between_let ns w v b within e = sym (ap (λ x. moves ns Symbol.Body w v x) e)
 
-module _ (t : List ℕ) (i : ℕ) (m : Machine) (good : Good i 8 m) (hinted : Hinted t i m) (there : m.top < 2112) where
-  pub read_on : (new : Machine) (x : Mark) (s : Symbol) (p : List Symbol) (u : Word) → get_or m.stack m.top Symbol.Lines ≡ s → belongs s (get_or t i 0) ≡ true
+module _ (t : List ℕ) (i : ℕ) (m : Machine) (on : Reading t i m) where
+  good : Good i 8 m
+  good = on.good
+
+  pub read_on : (new : Machine) (x : Mark) (s : Symbol) (p : List Symbol) (u : Word) → TopIs m s → belongs s (get_or t i 0) ≡ true
       → move (flag_of x) [] p u new.value ≡ moves (names_of t m) s (part t m.word i) m.value (get_or t i 0)
       → new.names ≡ m.names → new.count ≡ m.count → new.hints ≡ m.hints → Replaced m.stack m.top new.stack new.top p → part t new.word (i + 1) ≡ u → new.word ≤ i + 1
       → (new.clean ≡ true → shaped (part t new.word (i + 1)) ≡ true) → ReadOn t i m new x
-  read_on new x s p u is fits k names count hints down word begun shape =
+  read_on new x s p u top fits k names count hints down word begun shape =
       record {
-        still = λ out. settle_goes m (get_or m.stack m.top Symbol.Lines) (omega (arith, good.wide)) refl t i (get_or t i 0) out (sym (ap (λ y. belongs y (get_or t i 0)) is ∙ fits));
+        still = λ out. settle_goes m (get_or m.stack m.top Symbol.Lines) top.there refl t i (get_or t i 0) out (sym (ap (λ y. belongs y (get_or t i 0)) top.is ∙ fits));
         turned =
-            turned_by t i m new x None p u good there (k ∙ sym (ap (λ y. moves (names_of t m) y (part t m.word i) m.value (get_or t i 0)) is)) names count down word begun;
-        hinted = hinted_same t i (i + 1) m new hinted names count hints shape;
+            turned_by t i m new x None p u good (omega (arith, top.there, good.wide)) (k ∙ sym (ap (λ y. moves (names_of t m) y (part t m.word i) m.value (get_or t i 0)) top.is)) names count down word begun;
+        hinted = hinted_same t i (i + 1) m new on.hinted names count hints shape;
       }
 
-  pub byte_read : (c : ℕ) → get_or m.stack m.top Symbol.Lines ≡ Symbol.Byte c → get_or t i 0 ≡ c
-      → ReadOn t i m (record { stack = m.stack; top = m.top + 1; names = m.names; count = m.count; word = i + 1; value = 0; hints = m.hints; clean = false }) Mark.Inside
+  -- the next word begins behind the byte
+  pub placed_on : (new : Machine) (x : Mark) (s : Symbol) (p : List Symbol) → TopIs m s → belongs s (get_or t i 0) ≡ true
+      → move (flag_of x) [] p [] 0 ≡ moves (names_of t m) s (part t m.word i) m.value (get_or t i 0)
+      → Placed m new p (i + 1) → ReadOn t i m new x
+  placed_on new x s p top fits k placed =
+      read_on new x s p [] top fits (ap (λ v. move (flag_of x) [] p [] v) placed.value ∙ k) placed.names placed.count placed.hints placed.down
+      (ap (λ a. part t a (i + 1)) placed.begins ∙ part_none t (i + 1)) (omega (arith, placed.begins)) (λ is. never (sym placed.dirty ∙ is))
+
+  pub byte_read : (c : ℕ) (new : Machine) → TopIs m (Symbol.Byte c) → get_or t i 0 ≡ c → Placed m new [] (i + 1) → ReadOn t i m new Mark.Inside
   unfolding belongs moves when push
-  byte_read c is same =
-      read_on _ Mark.Inside (Symbol.Byte c) [] [] is refl (sym (ap (λ x. when x (push [])) (eq-eqb (get_or t i 0) c same))) refl refl refl (popped m.stack m.top) (part_none t (i + 1)) (omega arith) never
+  byte_read c new top same placed = placed_on new Mark.Inside (Symbol.Byte c) [] top refl (sym (ap (λ x. when x (push [])) (eq-eqb (get_or t i 0) c same))) placed
 
   -- BYTES OF WORDS
 
-  module _ (inside-text : i < length t) (letter : in_word (get_or t i 0) ≡ true) (whole : shaped (part t m.word (i + 1)) ≡ true) (few : m.count < 64) where
+  module _ (letter : in_word (get_or t i 0) ≡ true) (whole : shaped (part t m.word (i + 1)) ≡ true) (few : m.count < 64) where
     more : part t m.word (i + 1) ≡ part t m.word i ++ get_or t i 0 ∷ []
-    more = part_more t m.word i good.begun inside-text
+    more = part_more t m.word i good.begun on.inside
 
     viable_more : viable_name (names_of t m) (part t m.word i ++ get_or t i 0 ∷ []) ≡ true
     viable_more =
@@ -117,57 +113,48 @@ module _ (t : List ℕ) (i : ℕ) (m : Machine) (good : Good i 8 m) (hinted : Hi
     spelling_moves (as_target {x = x}) =
         let w = part t m.word i ++ get_or t i 0 ∷ [] in sym (ap (λ y. when y (move inside [] (Symbol.Target x ∷ []) w 0)) viable_more)
 
-    pub word_read : (s : Symbol) → get_or m.stack m.top Symbol.Lines ≡ s → Spells s
+    pub word_read : (s : Symbol) → TopIs m s → Spells s
         → ReadOn t i m (record { stack = m.stack; top = m.top; names = m.names; count = m.count; word = m.word; value = 0; hints = m.hints; clean = true }) Mark.Inside
-    word_read s is spells =
-        read_on _ Mark.Inside s (s ∷ []) (part t m.word i ++ get_or t i 0 ∷ []) is (spelling_belongs (get_or t i 0) spells ∙ letter) (spelling_moves spells) refl refl refl
-        (kept m s (omega (arith, good.wide)) is) more (omega (arith, good.begun)) (λ is. whole)
+    word_read s top spells =
+        read_on _ Mark.Inside s (s ∷ []) (part t m.word i ++ get_or t i 0 ∷ []) top (spelling_belongs (get_or t i 0) spells ∙ letter) (spelling_moves spells) refl refl refl
+        (kept m s top) more (omega (arith, good.begun)) (λ is. whole)
 
   -- BEHIND OPERANDS
 
-  pub last_read : (n : ℕ) → get_or m.stack m.top Symbol.Lines ≡ Symbol.Operands n → n ≡ 0 → get_or t i 0 ≡ 41
-      → ReadOn t i m (record { stack = m.stack; top = m.top + 1; names = m.names; count = m.count; word = i + 1; value = 0; hints = m.hints; clean = false }) Mark.Inside
+  pub last_read : (n : ℕ) (new : Machine) → TopIs m (Symbol.Operands n) → n ≡ 0 → get_or t i 0 ≡ 41 → Placed m new [] (i + 1) → ReadOn t i m new Mark.Inside
   unfolding belongs moves when push operands_move
-  last_read n is none same =
-      read_on _ Mark.Inside (Symbol.Operands n) [] [] is refl
-      (sym (ap (λ k. operands_move k (get_or t i 0)) none ∙ ap (λ x. when x (push [])) (eq-eqb (get_or t i 0) 41 same))) refl refl refl (popped m.stack m.top) (part_none t (i + 1)) (omega arith) never
+  last_read n new top none same placed =
+      placed_on new Mark.Inside (Symbol.Operands n) [] top refl
+      (sym (ap (λ k. operands_move k (get_or t i 0)) none ∙ ap (λ x. when x (push [])) (eq-eqb (get_or t i 0) 41 same))) placed
 
-  pub comma_read : (n : ℕ) (stack : List Symbol) (top : ℕ) → get_or m.stack m.top Symbol.Lines ≡ Symbol.Operands n → 0 < n → get_or t i 0 ≡ 44
-      → Replaced m.stack m.top stack top (Symbol.Byte 32 ∷ Symbol.Expr ∷ Symbol.Operands (n - 1) ∷ [])
-      → ReadOn t i m (record { stack = stack; top = top; names = m.names; count = m.count; word = i + 1; value = 0; hints = m.hints; clean = false }) Mark.Inside
+  pub comma_read : (n : ℕ) (new : Machine) → TopIs m (Symbol.Operands n) → 0 < n → get_or t i 0 ≡ 44
+      → Placed m new (Symbol.Byte 32 ∷ Symbol.Expr ∷ Symbol.Operands (n - 1) ∷ []) (i + 1) → ReadOn t i m new Mark.Inside
   unfolding belongs moves when push
-  comma_read n stack top is some same down =
-      read_on _ Mark.Inside (Symbol.Operands n) (Symbol.Byte 32 ∷ Symbol.Expr ∷ Symbol.Operands (n - 1) ∷ []) [] is refl
-      (sym (ap (λ x. when x (push (Symbol.Byte 32 ∷ Symbol.Expr ∷ Symbol.Operands (n - 1) ∷ []))) (eq-eqb (get_or t i 0) 44 same)) ∙ operands_more n (get_or t i 0) some) refl refl refl down
-      (part_none t (i + 1)) (omega arith) never
+  comma_read n new top some same placed =
+      placed_on new Mark.Inside (Symbol.Operands n) (Symbol.Byte 32 ∷ Symbol.Expr ∷ Symbol.Operands (n - 1) ∷ []) top refl
+      (sym (ap (λ x. when x (push (Symbol.Byte 32 ∷ Symbol.Expr ∷ Symbol.Operands (n - 1) ∷ []))) (eq-eqb (get_or t i 0) 44 same)) ∙ operands_more n (get_or t i 0) some) placed
 
   -- THE FIRST LETTER OF AN EXPRESSION
 
-  pub letter_read : i < length t → get_or m.stack m.top Symbol.Lines ≡ Symbol.Expr → m.count < 64 → is_letter (get_or t i 0) ≡ true
-      → ReadOn t i m (record { stack = set m.stack m.top Symbol.Word; top = m.top; names = m.names; count = m.count; word = i; value = 0; hints = m.hints; clean = true }) Mark.Begins
+  pub letter_read : (mid : Machine) → TopIs m Symbol.Expr → m.count < 64 → is_letter (get_or t i 0) ≡ true → Placed m mid (Symbol.Word ∷ []) i
+      → ReadOn t i m (record { stack = mid.stack; top = mid.top; names = mid.names; count = mid.count; word = mid.word; value = mid.value; hints = mid.hints; clean = true }) Mark.Begins
   unfolding belongs moves when viable shaped all_in_word
-  letter_read inside-text is few letter =
+  letter_read mid top few letter placed =
       let b = get_or t i 0 in
       let new = letter_shaped b letter in
       let named : viable_name (names_of t m) (b ∷ []) ≡ true = sym (viable_room (names_of t m) (b ∷ []) (sym new) (omega (arith, few_used t i 8 m good))) in
       let other : eqb b 35 ≡ false = ne_eqb b 35 (not_hash b letter) in
-      let down = topped m.stack m.top Symbol.Word (omega (arith, good.wide)) in
-      read_on _ Mark.Begins Symbol.Expr (Symbol.Word ∷ []) (b ∷ []) is refl
-      (sym (ap (λ x. pick x (move begins [] (Symbol.Hex 16 ∷ []) [] 0) (when (viable (names_of t m) (b ∷ [])) (move begins [] (Symbol.Word ∷ []) (b ∷ []) 0))) other
+      let word : part t mid.word (i + 1) ≡ b ∷ [] = ap (λ a. part t a (i + 1)) placed.begins ∙ part_one t i on.inside in
+      read_on _ Mark.Begins Symbol.Expr (Symbol.Word ∷ []) (b ∷ []) top refl
+      (ap (λ v. move begins [] (Symbol.Word ∷ []) (b ∷ []) v) placed.value
+      ∙ sym (ap (λ x. pick x (move begins [] (Symbol.Hex 16 ∷ []) [] 0) (when (viable (names_of t m) (b ∷ [])) (move begins [] (Symbol.Word ∷ []) (b ∷ []) 0))) other
       ∙ ap (λ x. when x (move begins [] (Symbol.Word ∷ []) (b ∷ []) 0)) (or_right (begins_some head_word heads (b ∷ [])) (viable_name (names_of t m) (b ∷ [])) named)))
-      refl refl refl down (part_one t i inside-text) (omega arith) (λ is. ap shaped (part_one t i inside-text) ∙ new)
+      placed.names placed.count placed.hints placed.down word (omega (arith, placed.begins)) (λ is. ap shaped word ∙ new)
 
   -- THE FIRST BYTE OF A STATEMENT
 
-  pub let_read : (s : Symbol) (stack : List Symbol) (top : ℕ) → get_or m.stack m.top Symbol.Lines ≡ s → BetweenLines s → get_or t i 0 ≡ 108
-      → LaidAll m.stack m.top stack top (Symbol.Byte 101 ∷ Symbol.Byte 116 ∷ Symbol.Byte 32 ∷ Symbol.Target Target.Let ∷ Symbol.Byte 10 ∷ [])
-      → ReadOn t i m (record { stack = stack; top = top; names = m.names; count = m.count; word = i + 1; value = 0; hints = m.hints; clean = false }) Mark.Begins
-  let_read s stack top is between same laid =
-      let p = Symbol.Byte 101 ∷ Symbol.Byte 116 ∷ Symbol.Byte 32 ∷ Symbol.Target Target.Let ∷ Symbol.Byte 10 ∷ [] in
-      let down : Replaced m.stack m.top stack top (p ++ s ∷ []) =
-      record {
-        is = laid.is ∙ ap (λ ss. p ++ ss) (top_is m s (omega (arith, good.wide)) (sym is));
-        down = omega (arith, laid.down);
-        long = laid.long;
-      } in
-      read_on _ Mark.Begins s (p ++ s ∷ []) [] is (between_belongs (get_or t i 0) between) (between_let (names_of t m) (part t m.word i) m.value (get_or t i 0) between same) refl refl refl down (part_none t (i + 1)) (omega arith) never
+  pub let_read : (s : Symbol) (new : Machine) → TopIs m s → BetweenLines s → get_or t i 0 ≡ 108
+      → Placed m new (Symbol.Byte 101 ∷ Symbol.Byte 116 ∷ Symbol.Byte 32 ∷ Symbol.Target Target.Let ∷ Symbol.Byte 10 ∷ s ∷ []) (i + 1) → ReadOn t i m new Mark.Begins
+  let_read s new top between same placed =
+      placed_on new Mark.Begins s (Symbol.Byte 101 ∷ Symbol.Byte 116 ∷ Symbol.Byte 32 ∷ Symbol.Target Target.Let ∷ Symbol.Byte 10 ∷ s ∷ []) top (between_belongs (get_or t i 0) between)
+      (between_let (names_of t m) (part t m.word i) m.value (get_or t i 0) between same) placed

@@ -1,5 +1,5 @@
 -- Endings and turns that the code makes are those of the table.
-use Rattle.std.proofs.Common.{◌≡◌, ℕ, zero, suc, ◌+◌, ◌-◌, ◌*◌, ◌^◌, ◌<◌, ◌≤◌, true, false, ◌&&◌, eqb, ltb, leb, ◌⊎◌, List, [], ◌∷◌, ◌++◌, length, get_or, take, drop, Some, None, sym, ap, ◌∙◌, inl, inr, arith, lit<}
+use Rattle.std.proofs.Common.{◌≡◌, ℕ, zero, suc, ◌+◌, ◌-◌, ◌*◌, ◌^◌, ◌<◌, ◌≤◌, Bool, true, false, cond, ◌&&◌, eqb, ltb, leb, ◌⊎◌, List, [], ◌∷◌, ◌++◌, length, get_or, take, drop, Some, None, sym, refl, ap, ◌∙◌, inl, inr, arith, lit<}
 use Rattle.std.proofs.lemmas.List.{length-drop, take_more, get_or-drop}
 use Rattle.std.proofs.lemmas.Bool.{ne_eqb, leb-true, le-leb, lt-leb, lt-ltb, le-ltb, and_parts, and_from, and_left, and_right, or_cases}
 use native.Mathlib.Nat.{pow-le-pow_right}
@@ -9,7 +9,10 @@ use Rattle.grammar.specs.declared.symbol.Symbol.{Symbol}
 use Rattle.grammar.specs.declared.symbol.Number.{Number}
 use Rattle.grammar.specs.Letters.{Flag, inside}
 use Rattle.grammar.specs.Words.{Word, is_digit}
+use Rattle.numbers.specs.Binary64.{canonical_bits, bits_nan}
 use Rattle.grammar.specs.Constants.{canonical}
+use lib.Ieee.{nan_bits, binary64}
+use lib.Ieee.Bits.{nan_bits_above}
 use Rattle.grammar.specs.Moves.{place, with_name, name_ends, no, ended, Move, stop, move, when, push, is_hex, hex_of, hex_move, line_move, operands_move, moves}
 use Rattle.reader.specs.declared.names.Naming.{Naming}
 use Rattle.reader.specs.declared.pushes.Pushes.{Pushes}
@@ -109,6 +112,15 @@ module _ (ns : List Word) (w : Word) (p : Number) (v b : ℕ) where
       let all : (is_digit b && (leb 1 v && ltb (v * 10 + (b - 48)) 4294967296)) ≡ true =
       and_from (is_digit b) (leb 1 v && ltb (v * 10 + (b - 48)) 4294967296) (sym d) (and_from (leb 1 v) (ltb (v * 10 + (b - 48)) 4294967296) (le-leb 1 v e) (lt-ltb (v * 10 + (b - 48)) 4294967296 f)) in
       sym (ap (λ t. when t (move inside [] (Symbol.Digits p ∷ []) [] (v * 10 + (b - 48)))) all)
+
+-- a constant is the one pattern of no number, where it is none
+pub canonical_same : (x : ℕ) → canonical_bits x ≡ canonical x
+unfolding canonical_bits canonical
+canonical_same x = go (nan_bits binary64 x) ∙ ap (λ b. pick b 0x7FF8000000000000 x) (nan_bits_above binary64 x)
+  where
+    go : (b : Bool) → cond b bits_nan x ≡ pick b 0x7FF8000000000000 x
+    go true = refl
+    go false = refl
 
 -- a constant's digits
 pub hex_room : (n v : ℕ) → 0 < n → (n ≤ 16) × (v < 16 ^ (16 - n)) → v < 1152921504606846976

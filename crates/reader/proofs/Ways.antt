@@ -1,5 +1,5 @@
 -- The ways of the loop over a text, and of its end.
-use Rattle.std.proofs.Common.{◌≡◌, ℕ, ◌+◌, ◌<◌, ◌≤◌, true, false, ltb, List, [], ◌∷◌, ◌++◌, reverse, length, get_or, take, drop, Some, None, Option, sym, refl, ap, ◌∙◌, subst, arith}
+use Rattle.std.proofs.Common.{◌≡◌, ℕ, ◌+◌, ◌<◌, ◌≤◌, true, false, ltb, List, [], ◌∷◌, ◌++◌, reverse, length, get_or, take, drop, Some, None, Option, Ok, sym, refl, ap, ◌∙◌, subst, arith}
 use mathlib.Core.List.{reverse_aux}
 use Rattle.std.specs.Option.{option_to_list}
 use Rattle.std.proofs.lemmas.List.{at_drop_all, length-reverse, length-take-le, length-append, length-drop, reverse-append, append_assoc, append-nil}
@@ -15,7 +15,6 @@ use Rattle.reader.specs.declared.turn.Mark.{Mark}
 use Rattle.reader.specs.declared.stepping.Advance.{Advance}
 use Rattle.reader.specs.declared.stepping.Said.{Said}
 use Rattle.reader.specs.declared.judging.Count.{Count}
-use Rattle.reader.specs.declared.judging.Verdict.{Verdict}
 use Rattle.reader.specs.Turning.{flag_of}
 use Rattle.reader.specs.Machines.{state_of, Advanced, Settled, ReadOn}
 use Rattle.reader.specs.Judging.{tally_of, only_lines, line_ends, place_of, place_at, places_from, mark_places, ReadsText}
@@ -177,7 +176,7 @@ module _ (t : List ℕ) (i : ℕ) (m : Machine) (c : Count) (said : ℕ) (steps 
     unfolding state_of steps_of
     steps_now = onto_reverse (take said steps)
 
-    pub way_lines : true ≡ only_lines (drop m.top m.stack) → ReadsText t steps places (Verdict.Taken said)
+    pub way_lines : true ≡ only_lines (drop m.top m.stack) → ReadsText t steps places (Ok said)
     unfolding judge last
     way_lines e =
         let q = state_with t i m said steps in
@@ -231,7 +230,7 @@ module _ (t : List ℕ) (i : ℕ) (m : Machine) (c : Count) (said : ℕ) (steps 
             let q = moved (top_move (state_of t i new (option_to_list x.step ++ reverse (take said steps))) 10) (state_of t i new (option_to_list x.step ++ reverse (take said steps))) in
             answer_end q now_is ∙ ap (λ y. pick y (took (steps_of q)) (refused_7 i)) (between_now ∙ sym never)
 
-        pub way_taken : true ≡ line_ends (drop new.top new.stack) → (said' : ℕ) (steps' : List Step) → said' ≡ said + length (option_to_list x.step) → reverse (take said' steps') ≡ option_to_list x.step ++ reverse (take said steps) → ReadsText t steps' places (Verdict.Taken said')
+        pub way_taken : true ≡ line_ends (drop new.top new.stack) → (said' : ℕ) (steps' : List Step) → said' ≡ said + length (option_to_list x.step) → reverse (take said' steps') ≡ option_to_list x.step ++ reverse (take said steps) → ReadsText t steps' places (Ok said')
         way_taken done said' steps' more says =
             let q = moved (top_move (state_of t i new (option_to_list x.step ++ reverse (take said steps))) 10) (state_of t i new (option_to_list x.step ++ reverse (take said steps))) in
             let all : said' ≡ c.marks =

@@ -1,14 +1,15 @@
 -- Steps stored one after the other, and what reading a text answers.
-use Rattle.std.proofs.Common.{◌≡◌, ℕ, ◌+◌, ◌-◌, ◌*◌, ◌/◌, ◌<◌, ◌≤◌, Bool, true, false, List, [], ◌∷◌, ◌++◌, length, get_or, take, drop, Ok, Err, sym, ap, ◌∙◌, arith}
+use Rattle.std.proofs.Common.{◌≡◌, ℕ, ◌+◌, ◌-◌, ◌*◌, ◌/◌, ◌<◌, ◌≤◌, Bool, true, false, List, [], ◌∷◌, ◌++◌, length, get_or, take, drop, Ok, Err, Result, sym, ap, ◌∙◌, arith}
 use Rattle.std.proofs.lemmas.List.{length-take-le, take_more, take_more_set, get_or-take, ext_get_or, drop-drop}
 use Rattle.std.proofs.lemmas.Bool.{lt-ltb, le-ltb}
 use Rattle.semantics.specs.Shapes.{pick}
 use Rattle.program.specs.declared.step.Step.{Step}
 use Rattle.program.specs.Words.{step_of, step_in, place_in, steps_in, places_in, Stored, Stores}
 use Rattle.program.proofs.Storing.{length_steps_in, length_places_in, steps_in_at, places_in_at}
-use Rattle.grammar.specs.Automaton.{refused_7, refused_8, answer_to}
-use Rattle.reader.specs.declared.judging.Verdict.{Verdict}
+use Rattle.grammar.specs.Automaton.{answer_to}
+use Rattle.reader.specs.declared.judging.Flaw.{Flaw}
 use Rattle.reader.specs.declared.refusal.Refusal.{Refusal}
+use Rattle.reader.specs.Refusals.{refusal_of}
 use Rattle.reader.specs.Judging.{ReadsText, mark_places}
 use Rattle.reader.specs.Reading.{verdict_of, steps_said, result_of, Written}
 
@@ -100,13 +101,13 @@ module _ (old now : List ℕ) (n k : ℕ) (steps : List Step) (places : List ℕ
 length_back : (n : ℕ) (steps : List Step) → length steps ≡ 2048 → n ≤ 2048 → length (take n steps) ≡ n
 length_back n steps long few = length-take-le n steps (omega arith)
 
-pub verdict_is : (t : List ℕ) (steps : List Step) (places : List ℕ) (r : Verdict) → length steps ≡ 2048 → ReadsText t steps places r → r ≡ verdict_of (answer_to t)
+pub verdict_is : (t : List ℕ) (steps : List Step) (places : List ℕ) (r : Result ℕ Flaw) → length steps ≡ 2048 → ReadsText t steps places r → r ≡ verdict_of (answer_to t)
 unfolding verdict_of
-verdict_is t steps places (Verdict.Taken n) long (is, marks, few) = ap Verdict.Taken (sym (length_back n steps long few)) ∙ ap verdict_of (sym is)
-verdict_is t steps places (Verdict.NoProgram i) long is = ap verdict_of (sym is)
-verdict_is t steps places (Verdict.TooMuch i) long is = ap verdict_of (sym is)
+verdict_is t steps places (Ok n) long (is, marks, few) = ap Ok (sym (length_back n steps long few)) ∙ ap verdict_of (sym is)
+verdict_is t steps places (Err (Flaw.NoProgram i)) long is = ap verdict_of (sym is)
+verdict_is t steps places (Err (Flaw.TooMuch i)) long is = ap verdict_of (sym is)
 
-module _ (t : List ℕ) (steps : List Step) (places : List ℕ) (n lent : ℕ) (long : length steps ≡ 2048) (read : ReadsText t steps places (Verdict.Taken n)) where
+module _ (t : List ℕ) (steps : List Step) (places : List ℕ) (n lent : ℕ) (long : length steps ≡ 2048) (read : ReadsText t steps places (Ok n)) where
   back_is : 16 * length (take n steps) ≡ 16 * n
   back_is = ap (λ k. 16 * k) (length_back n steps long read.2)
 
@@ -128,10 +129,7 @@ module _ (t : List ℕ) (steps : List Step) (places : List ℕ) (n lent : ℕ) (
   pub written_is : (old new : List ℕ) → Written old new n (take n steps) (take n places) → Written old new n (steps_said (answer_to t)) (mark_places t)
   written_is old new w = record { are = w.are ∙ steps_are; stand = w.stand ∙ read.1; rest = w.rest }
 
-pub refused_is : (t : List ℕ) (i lent : ℕ) → answer_to t ≡ refused_7 i → Err (Refusal.NoProgram i) ≡ result_of (answer_to t) lent
+pub refused_is : (t : List ℕ) (steps : List Step) (places : List ℕ) (e : Flaw) (lent : ℕ) → ReadsText t steps places (Err e) → Err (refusal_of e) ≡ result_of (answer_to t) lent
 unfolding result_of
-refused_is t i lent e = sym (ap (λ a. result_of a lent) e)
-
-pub over_is : (t : List ℕ) (i lent : ℕ) → answer_to t ≡ refused_8 i → Err (Refusal.TooMuch i) ≡ result_of (answer_to t) lent
-unfolding result_of
-over_is t i lent e = sym (ap (λ a. result_of a lent) e)
+refused_is t steps places (Flaw.NoProgram i) lent is = sym (ap (λ a. result_of a lent) is)
+refused_is t steps places (Flaw.TooMuch i) lent is = sym (ap (λ a. result_of a lent) is)

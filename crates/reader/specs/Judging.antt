@@ -1,12 +1,12 @@
 -- Texts judged.
-use Rattle.std.specs.Prelude.{◌≡◌, ℕ, suc, ◌≤◌, Bool, false, ◌&&◌, List, [], ◌∷◌, ◌++◌, take, ◌==◌}
+use Rattle.std.specs.Prelude.{◌≡◌, ℕ, suc, ◌≤◌, Bool, false, ◌&&◌, List, [], ◌∷◌, ◌++◌, take, Ok, Err, Result, ◌==◌}
 use Rattle.program.specs.declared.step.Step.{Step}
 use Rattle.grammar.specs.declared.symbol.Symbol.{Symbol}
 use Rattle.grammar.specs.Letters.{Flag, inside, begins, opens, closes, Tally}
 use Rattle.grammar.specs.Automaton.{State, start, next, next_flag, is_lines, took, refused_7, refused_8, answer_to}
 use Rattle.reader.specs.declared.turn.Mark.{Mark}
 use Rattle.reader.specs.declared.judging.Count.{Count}
-use Rattle.reader.specs.declared.judging.Verdict.{Verdict}
+use Rattle.reader.specs.declared.judging.Flaw.{Flaw}
 
 abbrev pub tally_of : Count → Tally
 tally_of c = record { marks = c.marks; level = c.level }
@@ -64,7 +64,7 @@ unfolding places_from start
 mark_places t = places_from start 0 t
 
 -- steps in order, with their places; or why and where there are none
-abbrev pub ReadsText : List ℕ → List Step → List ℕ → Verdict → Type 0
-ReadsText t steps places (Verdict.Taken n) = (answer_to t ≡ took (take n steps)) × (take n places ≡ mark_places t) × (n ≤ 2048)
-ReadsText t steps places (Verdict.NoProgram i) = answer_to t ≡ refused_7 i
-ReadsText t steps places (Verdict.TooMuch i) = answer_to t ≡ refused_8 i
+abbrev pub ReadsText : List ℕ → List Step → List ℕ → Result ℕ Flaw → Type 0
+ReadsText t steps places (Ok n) = (answer_to t ≡ took (take n steps)) × (take n places ≡ mark_places t) × (n ≤ 2048)
+ReadsText t steps places (Err (Flaw.NoProgram i)) = answer_to t ≡ refused_7 i
+ReadsText t steps places (Err (Flaw.TooMuch i)) = answer_to t ≡ refused_8 i

@@ -1,5 +1,5 @@
 -- The automaton's state that a machine stands for.
-use Rattle.std.specs.Prelude.{◌≡◌, ℕ, ◌+◌, ◌≤◌, Bool, true, false, List, [], ◌∷◌, ◌++◌, length, take, drop, Some, None, Option, slice_index}
+use Rattle.std.specs.Prelude.{◌≡◌, ℕ, ◌+◌, ◌<◌, ◌≤◌, Bool, true, false, List, [], ◌∷◌, ◌++◌, length, take, drop, Some, None, Option, slice_index, slice_index_or}
 use Rattle.std.specs.Option.{option_to_list}
 use Rattle.program.specs.declared.step.Step.{Step}
 use Rattle.grammar.specs.declared.symbol.Symbol.{Symbol}
@@ -59,6 +59,25 @@ pub record Replaced (old : List Symbol) (top : ℕ) (new : List Symbol) (low : �
   pub down : low + length s ≡ top + 1
   pub long : length new ≡ length old
 
+-- the topmost symbol
+pub record TopIs (m : Machine) (s : Symbol) : Type 0 where
+  pub there : m.top < length m.stack
+  pub is : slice_index_or m.stack m.top Symbol.Lines ≡ s
+
+abbrev pub Topmost : Machine → Option Symbol → Type 0
+Topmost m None = length m.stack ≤ m.top
+Topmost m (Some s) = TopIs m s
+
+-- these in its place, with a new word from `word` on, and no number
+pub record Placed (old new : Machine) (s : List Symbol) (word : ℕ) : Type 0 where
+  pub down : Replaced old.stack old.top new.stack new.top s
+  pub names : new.names ≡ old.names
+  pub count : new.count ≡ old.count
+  pub hints : new.hints ≡ old.hints
+  pub begins : new.word ≡ word
+  pub value : new.value ≡ 0
+  pub dirty : new.clean ≡ false
+
 -- how the topmost word or number is settled before byte b
 pub record Settled (t : List ℕ) (i b : ℕ) (old new : Machine) (s : Said) : Type 0 where
   pub is : (out : List Step) → settle (state_of t i old out) b ≡ state_of t i new (option_to_list s.step ++ out)
@@ -97,6 +116,17 @@ pub record Hinted (t : List ℕ) (i : ℕ) (m : Machine) : Type 0 where
   pub named : are_names (spellings t (take m.count m.names)) ≡ true
   pub shape : m.clean ≡ true → shaped (part t m.word i) ≡ true
 
+-- before the byte at i is read
+pub record Reading (t : List ℕ) (i : ℕ) (m : Machine) : Type 0 where
+  pub inside : i < length t
+  pub good : Good i 8 m
+  pub hinted : Hinted t i m
+
+-- before a word or number may end at i
+pub record Standing (t : List ℕ) (i : ℕ) (m : Machine) : Type 0 where
+  pub good : Good i 16 m
+  pub hinted : Hinted t i m
+
 -- the byte at i belongs to the topmost symbol, and says no step
 pub record ReadOn (t : List ℕ) (i : ℕ) (old new : Machine) (mark : Mark) : Type 0 where
   pub still : (out : List Step) → settle (state_of t i old out) (slice_index t i) ≡ state_of t i old out
@@ -117,18 +147,6 @@ pub record EndedNow (t : List ℕ) (i b : ℕ) (old new : Machine) (s : Said) : 
 abbrev pub EndsNow : List ℕ → ℕ → ℕ → Machine → Machine → Option Said → Type 0
 EndsNow t i b old new None = new ≡ old
 EndsNow t i b old new (Some s) = EndedNow t i b old new s
-
--- one symbol more
-pub record Laid (old : List Symbol) (top : ℕ) (new : List Symbol) (low : ℕ) (s : Symbol) : Type 0 where
-  pub is : drop low new ≡ s ∷ drop top old
-  pub down : low + 1 ≡ top
-  pub long : length new ≡ length old
-
--- several symbols more
-pub record LaidAll (old : List Symbol) (top : ℕ) (new : List Symbol) (low : ℕ) (p : List Symbol) : Type 0 where
-  pub is : drop low new ≡ p ++ drop top old
-  pub down : low + length p ≡ top
-  pub long : length new ≡ length old
 
 -- a word that is read
 pub data Spells : Symbol → Type 0 where

@@ -4,15 +4,15 @@ use Rattle.semantics.specs.Shapes.{pick}
 use Rattle.program.specs.declared.step.Step.{Step}
 use Rattle.program.specs.Words.{steps_in, places_in}
 use Rattle.grammar.specs.Automaton.{Answer, took, refused_7, refused_8, answer_to}
-use Rattle.reader.specs.declared.judging.Verdict.{Verdict}
+use Rattle.reader.specs.declared.judging.Flaw.{Flaw}
 use Rattle.reader.specs.declared.refusal.Refusal.{Refusal}
 use Rattle.reader.specs.Judging.{mark_places}
 
 -- the verdict that an answer is
-unfoldable pub verdict_of : Answer → Verdict
-verdict_of (took es) = Verdict.Taken (length es)
-verdict_of (refused_7 i) = Verdict.NoProgram i
-verdict_of (refused_8 i) = Verdict.TooMuch i
+unfoldable pub verdict_of : Answer → Result ℕ Flaw
+verdict_of (took es) = Ok (length es)
+verdict_of (refused_7 i) = Err (Flaw.NoProgram i)
+verdict_of (refused_8 i) = Err (Flaw.TooMuch i)
 
 -- the steps of a text's program, in order
 unfoldable pub steps_said : Answer → List Step

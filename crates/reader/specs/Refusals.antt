@@ -1,7 +1,12 @@
--- The number of a refusal, and its place in the text.
+-- The refusal that a flaw of a text is; the number of a refusal, and its place in the text.
 use Rattle.std.specs.Prelude.{ℕ}
+use Rattle.reader.specs.declared.judging.Flaw.{Flaw}
 use Rattle.reader.specs.declared.refusal.Refusal.{Refusal}
 use Rattle.reader.specs.declared.refusal.Refusal.TheVariants.{NoProgram, TooMuch, ShortWords}
+
+abbrev pub refusal_of : Flaw → Refusal
+refusal_of (Flaw.NoProgram i) = NoProgram i
+refusal_of (Flaw.TooMuch i) = TooMuch i
 
 abbrev pub refusal_number : Refusal → ℕ
 refusal_number (NoProgram i) = 7

@@ -1,13 +1,12 @@
-// A text judged: its steps, or why and where it is refused.
+// A text judged: how many steps it has, or why and where it is refused.
 pub mod reading;
 
+// Why a text is refused, and at which byte.
 #[derive(Clone, Copy)]
-pub enum Verdict {
-    // a program of so many steps
-    Taken(usize),
+pub enum Flaw {
     // no program from this byte on
     NoProgram(usize),
-    // too much at this byte
+    // too many bytes or marks, or too deep, at this byte
     TooMuch(usize),
 }
 

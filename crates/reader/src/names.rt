@@ -1,8 +1,9 @@
 // Names that a text has so far, each as the part of the text where it first came.
-ghost use Rattle.std.specs.Prelude.{◌≡◌, ◌≤◌, length};
-ghost use Rattle.grammar.specs.Words.{begins_some, itself};
+ghost use Rattle.std.specs.Prelude.{◌≡◌, ◌≤◌, length, position};
+ghost use Rattle.std.specs.List.{list_any};
+ghost use Rattle.grammar.specs.Words.{same_word, begins_word};
 ghost use Rattle.grammar.specs.Moves.{viable_name, viable};
-ghost use Rattle.reader.specs.Names.{part, spellings, Sought, Named};
+ghost use Rattle.reader.specs.Names.{part, spelling, spellings, Named};
 
 use grammar::words::{begins_head, begins_word, is_name, is_shaped, same_word};
 
@@ -15,7 +16,31 @@ pub struct Span {
     pub to: usize,
 }
 
+impl Span {
+    // The part of the text.
+    pub fn of(self, text: &[u8]) -> &[u8]
+        ensures { result.now ≡ spelling text.now self }
+    {
+        part_of(text, self.from, self.to)
+    }
+
+    // Whether that is the word.
+    fn is(&self, text: &[u8], word: &[u8]) -> bool
+        ensures { result ≡ same_word word.now (spelling text.now self.now) }
+    {
+        same_word(word, self.of(text))
+    }
+
+    // Whether that begins with the word.
+    fn begins_with(&self, text: &[u8], word: &[u8]) -> bool
+        ensures { result ≡ begins_word word.now (spelling text.now self.now) }
+    {
+        begins_word(word, self.of(text))
+    }
+}
+
 // A name's number, and whether it comes for the first time.
+// Stays: both kinds have a number, so an enum of the two would hold it twice.
 #[derive(Clone, Copy)]
 pub struct Naming {
     pub place: u32,
@@ -26,59 +51,36 @@ pub struct Naming {
 pub fn part_of(text: &[u8], from: usize, to: usize) -> &[u8]
     ensures { result.now ≡ part text.now from to }
 {
-    let len = text.len();
-    let end = if to < len { to } else { len };
-    let start = if from < end { from } else { end };
-    &text[start..end]
+    let end = to.min(text.len());
+    &text[from.min(end)..end]
 }
 
 // Which of the names the word is, or none.
 fn find_name(text: &[u8], names: &[Span], word: &[u8]) -> Option<usize>
-    ensures { Sought (spellings text.now names.now) word.now result }
+    ensures { result ≡ position (λ name. same_word word.now (spelling text.now name)) names.now }
 {
-    for k in 0..names.len() {
-        let span = names[k];
-        if same_word(word, part_of(text, span.from, span.to)) {
-            return Some(k);
-        }
-    }
-    None
+    names.iter().position(|name| name.is(text, word))
 }
 
 // Whether the word is the beginning of a name.
 fn begins_name(text: &[u8], names: &[Span], word: &[u8]) -> bool
-    ensures { result ≡ begins_some itself (spellings text.now names.now) word.now }
+    ensures { result ≡ list_any (λ name. begins_word word.now (spelling text.now name)) names.now }
 {
-    for k in 0..names.len() {
-        let span = names[k];
-        if begins_word(word, part_of(text, span.from, span.to)) {
-            return true;
-        }
-    }
-    false
+    names.iter().any(|name| name.begins_with(text, word))
 }
 
 // Whether the word may still become a name: one that has come, or a new one where there is room.
 pub fn is_viable_name(text: &[u8], names: &[Span], word: &[u8]) -> bool
     ensures { result ≡ viable_name (spellings text.now names.now) word.now }
 {
-    if !is_shaped(word) {
-        return false;
-    }
-    if names.len() < MOST_NAMES {
-        return true;
-    }
-    begins_name(text, names, word)
+    is_shaped(word) && (names.len() < MOST_NAMES || begins_name(text, names, word))
 }
 
 // Whether the word may still become one that begins an expression, or a name.
 pub fn is_viable(text: &[u8], names: &[Span], word: &[u8]) -> bool
     ensures { result ≡ viable (spellings text.now names.now) word.now }
 {
-    if begins_head(word) {
-        return true;
-    }
-    is_viable_name(text, names, word)
+    begins_head(word) || is_viable_name(text, names, word)
 }
 
 // The name that the word is, or none where it is no name or there is no room for another.

@@ -3,7 +3,7 @@ ghost use Rattle.std.specs.Prelude.{◌≡◌, ◌*◌, ◌≤◌, length, take}
 ghost use Rattle.grammar.specs.Automaton.{answer_to};
 ghost use Rattle.reader.specs.Reading.{verdict_of, result_of, Written, Leaves};
 
-use crate::judging::Verdict;
+use crate::judging::Flaw;
 use crate::judging::reading::read_text;
 use crate::refusal::Refusal;
 use program::step::Step;
@@ -16,13 +16,14 @@ pub fn write_steps(words: &mut [u32], steps: &[Step], places: &[u32], n: usize)
     requires room { 5 * n ≤ length words.old }
     ensures { Written words.old words.new n (take n steps.now) (take n places.now) }
 {
-    for k in 0..n {
-        let _ = put_step(words, k, steps[k], places[k]);
+    // Stays: with places under zip, it stays open which items come at k.
+    for (k, step) in steps[..n].iter().enumerate() {
+        let _ = put_step(words, k, *step, places[k]);
     }
 }
 
 // Judges a text, and writes nothing that is lent.
-pub fn judge(text: &[u8]) -> Verdict
+pub fn judge(text: &[u8]) -> Result<usize, Flaw>
     ensures { result ≡ verdict_of (answer_to text.now) }
 {
     let mut steps = [Step::End; 2048];
@@ -38,16 +39,10 @@ pub fn read_program(text: &[u8], words: &mut [u32]) -> Result<usize, Refusal>
 {
     let mut steps = [Step::End; 2048];
     let mut places = [0; 2048];
-    let verdict = read_text(text, &mut steps, &mut places);
-    match verdict {
-        Verdict::NoProgram(i) => Err(Refusal::NoProgram(i)),
-        Verdict::TooMuch(i) => Err(Refusal::TooMuch(i)),
-        Verdict::Taken(n) => {
-            if words.len() < 16 * n {
-                return Err(Refusal::ShortWords);
-            }
-            write_steps(words, &steps, &places, n);
-            Ok(n)
-        }
+    let n = read_text(text, &mut steps, &mut places)?;
+    if words.len() < 16 * n {
+        return Err(Refusal::ShortWords);
     }
+    write_steps(words, &steps, &places, n);
+    Ok(n)
 }

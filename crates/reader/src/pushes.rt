@@ -5,6 +5,7 @@ use grammar::symbol::Symbol;
 
 pub mod making;
 
+// Stays: no heap here, so a fixed array and how many of it count.
 #[derive(Clone, Copy)]
 pub struct Pushes {
     pub len: usize,

@@ -1,6 +1,8 @@
 // Why a text is not read.
 ghost use Rattle.std.specs.Prelude.{◌≡◌};
-ghost use Rattle.reader.specs.Refusals.{refusal_number, refusal_place};
+ghost use Rattle.reader.specs.Refusals.{refusal_of, refusal_number, refusal_place};
+
+use crate::judging::Flaw;
 
 #[derive(Clone, Copy)]
 pub enum Refusal {
@@ -12,24 +14,36 @@ pub enum Refusal {
     ShortWords,
 }
 
-// The number of a refusal.
-pub fn refusal_number(refusal: Refusal) -> u32
-    ensures { result ≡ refusal_number refusal }
-{
-    match refusal {
-        Refusal::NoProgram(_) => 7,
-        Refusal::TooMuch(_) => 8,
-        Refusal::ShortWords => 10,
+impl From<Flaw> for Refusal {
+    ghost from_gives = { λ flaw r. r ≡ refusal_of flaw };
+
+    fn from(flaw: Flaw) -> Refusal {
+        match flaw {
+            Flaw::NoProgram(i) => Refusal::NoProgram(i),
+            Flaw::TooMuch(i) => Refusal::TooMuch(i),
+        }
     }
 }
 
-// The byte of the text that a refusal speaks of; 0 where it speaks of none.
-pub fn refusal_place(refusal: Refusal) -> usize
-    ensures { result ≡ refusal_place refusal }
-{
-    match refusal {
-        Refusal::NoProgram(i) => i,
-        Refusal::TooMuch(i) => i,
-        Refusal::ShortWords => 0,
+impl Refusal {
+    // The number of a refusal.
+    pub fn number(self) -> u32
+        ensures { result ≡ refusal_number self }
+    {
+        match self {
+            Refusal::NoProgram(_) => 7,
+            Refusal::TooMuch(_) => 8,
+            Refusal::ShortWords => 10,
+        }
+    }
+
+    // The byte of the text that a refusal speaks of; 0 where it speaks of none.
+    pub fn place(self) -> usize
+        ensures { result ≡ refusal_place self }
+    {
+        match self {
+            Refusal::NoProgram(i) | Refusal::TooMuch(i) => i,
+            Refusal::ShortWords => 0,
+        }
     }
 }

@@ -8,6 +8,7 @@ pub mod moving;
 pub mod skimming;
 
 // The step that is said, where one is.
+// Stays: in an Option of an Option it would not be said which None means that no step is said.
 #[derive(Clone, Copy)]
 pub struct Said {
     pub step: Option<Step>,

@@ -4,7 +4,6 @@ ghost use Rattle.std.specs.Option.{option_to_list};
 ghost use Rattle.grammar.specs.declared.symbol.Symbol.{Symbol};
 ghost use Rattle.grammar.specs.declared.symbol.Number.{Number};
 ghost use Rattle.grammar.specs.Words.{Word, is_digit};
-ghost use Rattle.grammar.specs.Constants.{canonical};
 ghost use Rattle.grammar.specs.Moves.{spelled, Move, move, when, push, is_hex, hex_of, line_move, operands_move, moves};
 ghost use Rattle.reader.specs.Names.{part, spellings};
 ghost use Rattle.reader.specs.Pushed.{symbols_of};
@@ -13,11 +12,12 @@ ghost use Rattle.reader.specs.Turning.{flag_of, move_or, move_of, Fit};
 use crate::follows::item_number;
 use crate::names::{Span, is_viable, is_viable_name, part_of};
 use crate::pushes::Pushes;
-use crate::pushes::making::{eight, none, one, seven, six, three, two};
+use crate::pushes::making::{first_eight, how_many, pushes};
 use crate::turn::{Mark, Turn};
 use grammar::letters::{is_digit, is_hex};
 use grammar::symbol::{Bracket, Number, Symbol, Target};
 use grammar::words::begins_binary;
+use numbers::canonical;
 use program::step::Step;
 
 // Symbols are pushed where the byte is the right one.
@@ -50,24 +50,24 @@ fn begin_line(mark: Mark, step: Option<Step>, pushes: Pushes) -> Option<Turn>
 }
 
 // Behind the first byte of `let` or `put`.
-fn target_line(second: u8, target: Target, here: Symbol) -> Pushes
+pub fn target_line(second: u8, target: Target, here: Symbol) -> Pushes
     ensures { symbols_of result ≡ Symbol.Byte second ∷ Symbol.Byte 116 ∷ Symbol.Byte 32 ∷ Symbol.Target target ∷ Symbol.Byte 10 ∷ here ∷ [] }
 {
-    six(
+    pushes![
         Symbol::Byte(second),
         Symbol::Byte(b't'),
         Symbol::Byte(b' '),
         Symbol::Target(target),
         Symbol::Byte(b'\n'),
         here,
-    )
+    ]
 }
 
 // Behind the first byte of `show`.
 fn show_line(here: Symbol) -> Pushes
     ensures { symbols_of result ≡ spelled (codes "how ") (Symbol.Expr ∷ Symbol.Byte 10 ∷ here ∷ []) }
 {
-    seven(
+    pushes![
         Symbol::Byte(b'h'),
         Symbol::Byte(b'o'),
         Symbol::Byte(b'w'),
@@ -75,14 +75,14 @@ fn show_line(here: Symbol) -> Pushes
         Symbol::Expr,
         Symbol::Byte(b'\n'),
         here,
-    )
+    ]
 }
 
 // Behind the first byte of `again`.
 fn again_line(here: Symbol) -> Pushes
     ensures { symbols_of result ≡ spelled (codes "gain ") (Symbol.Number Number.Again ∷ Symbol.Byte 10 ∷ here ∷ []) }
 {
-    eight(
+    pushes![
         Symbol::Byte(b'g'),
         Symbol::Byte(b'a'),
         Symbol::Byte(b'i'),
@@ -91,26 +91,20 @@ fn again_line(here: Symbol) -> Pushes
         Symbol::Number(Number::Again),
         Symbol::Byte(b'\n'),
         here,
-    )
+    ]
 }
 
 // The first byte of a statement.
 fn line_turn(here: Symbol, b: u8) -> Option<Turn>
     ensures { (t : List ℕ) (e : ℕ) (other : Move) → move_or t e other result ≡ line_move here other b }
 {
-    if b == b'l' {
-        return begin_line(Mark::Begins, None, target_line(b'e', Target::Let, here));
+    match b {
+        b'l' => begin_line(Mark::Begins, None, target_line(b'e', Target::Let, here)),
+        b'p' => begin_line(Mark::Begins, None, target_line(b'u', Target::Put, here)),
+        b's' => begin_line(Mark::Begins, Some(Step::Show), show_line(here)),
+        b'a' => begin_line(Mark::Opens, None, again_line(here)),
+        _ => None,
     }
-    if b == b'p' {
-        return begin_line(Mark::Begins, None, target_line(b'u', Target::Put, here));
-    }
-    if b == b's' {
-        return begin_line(Mark::Begins, Some(Step::Show), show_line(here));
-    }
-    if b == b'a' {
-        return begin_line(Mark::Opens, None, again_line(here));
-    }
-    None
 }
 
 // The first byte of a statement in an `again`, or of its end.
@@ -126,7 +120,7 @@ fn body_turn(b: u8) -> Option<Turn>
     Some(Turn {
         mark: Mark::Closes,
         step: Some(Step::End),
-        pushes: two(Symbol::Byte(b'n'), Symbol::Byte(b'd')),
+        pushes: pushes![Symbol::Byte(b'n'), Symbol::Byte(b'd')],
         word: None,
         value: 0,
     })
@@ -166,7 +160,7 @@ fn digits_turn(number: Number, value: u64, b: u8) -> Option<Turn>
     Some(Turn {
         mark: Mark::Inside,
         step: None,
-        pushes: one(Symbol::Digits(number)),
+        pushes: pushes![Symbol::Digits(number)],
         word: None,
         value: more,
     })
@@ -181,17 +175,6 @@ pub fn hex_value(b: u8) -> u64
         (b - b'0') as u64
     } else {
         (b - 87) as u64
-    }
-}
-
-// Every pattern of no number is read as one and the same.
-fn to_canonical(x: u64) -> u64
-    ensures { result ≡ canonical x }
-{
-    if x % 0x8000_0000_0000_0000 > 0x7ff0_0000_0000_0000 {
-        0x7ff8_0000_0000_0000
-    } else {
-        x
     }
 }
 
@@ -210,8 +193,8 @@ fn hex_turn(left: u8, value: u64, b: u8) -> Option<Turn>
     if left == 1 {
         return Some(Turn {
             mark: Mark::Inside,
-            step: Some(Step::Constant(to_canonical(more))),
-            pushes: none(),
+            step: Some(Step::Constant(canonical(more))),
+            pushes: pushes![],
             word: None,
             value: 0,
         });
@@ -219,7 +202,7 @@ fn hex_turn(left: u8, value: u64, b: u8) -> Option<Turn>
     Some(Turn {
         mark: Mark::Inside,
         step: None,
-        pushes: one(Symbol::Hex(left - 1)),
+        pushes: pushes![Symbol::Hex(left - 1)],
         word: None,
         value: more,
     })
@@ -230,11 +213,11 @@ fn operands_turn(more: u8, b: u8) -> Option<Turn>
     ensures { (t : List ℕ) (e : ℕ) → move_of t e result ≡ operands_move more b }
 {
     if more == 0 {
-        return push_when(b == b')', none());
+        return push_when(b == b')', pushes![]);
     }
     push_when(
         b == b',',
-        three(Symbol::Byte(b' '), Symbol::Expr, Symbol::Operands(more - 1)),
+        pushes![Symbol::Byte(b' '), Symbol::Expr, Symbol::Operands(more - 1)],
     )
 }
 
@@ -243,11 +226,11 @@ fn first_turn(kind: Bracket, b: u8) -> Option<Turn>
     ensures { (t : List ℕ) (e : ℕ) (ns : List Word) (w : Word) (v : ℕ) → move_of t e result ≡ moves ns (Symbol.First kind) w v b }
 {
     if b == b']' {
-        return push_when(true, none());
+        return push_when(true, pushes![]);
     }
     digit_turn(
         Mark::Begins,
-        two(Symbol::Digits(item_number(kind)), Symbol::More(kind)),
+        pushes![Symbol::Digits(item_number(kind)), Symbol::More(kind)],
         b,
     )
 }
@@ -257,11 +240,11 @@ fn more_turn(kind: Bracket, b: u8) -> Option<Turn>
     ensures { (t : List ℕ) (e : ℕ) (ns : List Word) (w : Word) (v : ℕ) → move_of t e result ≡ moves ns (Symbol.More kind) w v b }
 {
     if b == b']' {
-        return push_when(true, none());
+        return push_when(true, pushes![]);
     }
     push_when(
         b == b',',
-        three(Symbol::Byte(b' '), Symbol::Item(kind), Symbol::More(kind)),
+        pushes![Symbol::Byte(b' '), Symbol::Item(kind), Symbol::More(kind)],
     )
 }
 
@@ -270,11 +253,11 @@ fn step_turn(from: u32, b: u8) -> Option<Turn>
     ensures { (t : List ℕ) (e : ℕ) (ns : List Word) (w : Word) (v : ℕ) → move_of t e result ≡ moves ns (Symbol.Step from) w v b }
 {
     if b == b'-' {
-        return push_when(true, one(Symbol::Number(Number::Step(from, true))));
+        return push_when(true, pushes![Symbol::Number(Number::Step(from, true))]);
     }
     digit_turn(
         Mark::Inside,
-        one(Symbol::Digits(Number::Step(from, false))),
+        pushes![Symbol::Digits(Number::Step(from, false))],
         b,
     )
 }
@@ -289,7 +272,7 @@ fn word_turn(ok: bool, mark: Mark, symbol: Symbol, from: usize) -> Option<Turn>
     Some(Turn {
         mark,
         step: None,
-        pushes: one(symbol),
+        pushes: pushes![symbol],
         word: Some(from),
         value: 0,
     })
@@ -304,7 +287,7 @@ fn expr_turn(text: &[u8], names: &[Span], at: usize) -> Option<Turn>
         return Some(Turn {
             mark: Mark::Begins,
             step: None,
-            pushes: one(Symbol::Hex(16)),
+            pushes: pushes![Symbol::Hex(16)],
             word: None,
             value: 0,
         });
@@ -315,6 +298,8 @@ fn expr_turn(text: &[u8], names: &[Span], at: usize) -> Option<Turn>
 }
 
 // What becomes of the symbol with the byte at `at`, where its word began at `from`; none where it cannot be read.
+// Not inlined, as endings are not.
+#[inline(never)]
 pub fn turn_symbol(
     text: &[u8],
     names: &[Span],
@@ -333,7 +318,7 @@ pub fn turn_symbol(
     match symbol {
         Symbol::Lines => line_turn(Symbol::Lines, b),
         Symbol::Body => body_turn(b),
-        Symbol::Byte(c) => push_when(b == c, none()),
+        Symbol::Byte(c) => push_when(b == c, pushes![]),
         Symbol::Target(_) => word_turn(
             is_viable_name(text, names, word),
             Mark::Inside,
@@ -343,13 +328,17 @@ pub fn turn_symbol(
         Symbol::Expr => expr_turn(text, names, at),
         Symbol::Word => word_turn(is_viable(text, names, word), Mark::Inside, symbol, from),
         Symbol::Binary(_) => word_turn(begins_binary(word), Mark::Inside, symbol, from),
-        Symbol::Number(number) => digit_turn(Mark::Inside, one(Symbol::Digits(number)), b),
+        Symbol::Number(number) => digit_turn(Mark::Inside, pushes![Symbol::Digits(number)], b),
         Symbol::Digits(number) => digits_turn(number, value, b),
         Symbol::Hex(left) => hex_turn(left, value, b),
         Symbol::Operands(more) => operands_turn(more, b),
         Symbol::First(kind) => first_turn(kind, b),
         Symbol::More(kind) => more_turn(kind, b),
-        Symbol::Item(kind) => digit_turn(Mark::Begins, one(Symbol::Digits(item_number(kind))), b),
+        Symbol::Item(kind) => digit_turn(
+            Mark::Begins,
+            pushes![Symbol::Digits(item_number(kind))],
+            b,
+        ),
         Symbol::Step(start) => step_turn(start, b),
     }
 }

@@ -1,5 +1,5 @@
 -- Evaluation, operand after operand.
-use Rattle.std.proofs.Common.{◌≡◌, ℕ, ◌+◌, ◌-◌, ◌<◌, ◌≤◌, List, length, IsErrAnd, Ok, Err, Result, Vec, sym, ap, subst, arith}
+use Rattle.std.proofs.Common.{◌≡◌, ℕ, ◌+◌, ◌-◌, ◌<◌, ◌≤◌, List, length, IsErrAnd, Ok, Err, Result, Vec, sym, ap, subst, arith, Option}
 use Rattle.std.specs.declared.alloc.Global.{Global}
 use Rattle.std.proofs.lemmas.Result.{err_from_is_err_and}
 use Rattle.semantics.specs.Shapes.{size}
@@ -18,7 +18,7 @@ use Rattle.reference.specs.declared.evaluate.Arity.TheVariants.{Zero, One as Sin
 use Rattle.reference.specs.declared.evaluate.Valued.{Valued}
 use Rattle.reference.specs.declared.fault.Stop.{Stop}
 use Rattle.reference.specs.declared.made.Made.{Made}
-use Rattle.reference.specs.declared.names.Cell.{Cell}
+use Rattle.reference.specs.declared.array.Array as owned
 use Rattle.reference.specs.ArrayOf.{array_of}
 use Rattle.reference.specs.Brackets.{SkipsBrackets}
 use Rattle.reference.specs.CellsOf.{cells_of, sizes}
@@ -29,7 +29,7 @@ use Rattle.reference.proofs.Rights.{right_is, right_ok}
 use Rattle.reference.proofs.Operating.{leaf_at, OneAt, one_at, TwoAt, two_at, ThreeAt, three_at, stop_one, right_one, stop_two, stop_two_second, right_two, stop_three, stop_three_second, stop_three_third, right_three}
 
 -- right for every expression that stands at i
-pub record Rightly (ws bs : List ℕ) (names : Vec Cell Global) (i n : ℕ) (out : Result Made Stop) : Type 0 where
+pub record Rightly (ws bs : List ℕ) (names : Vec (Option owned.Array) Global) (i n : ℕ) (out : Result Made Stop) : Type 0 where
   pub on : (p : ℕ) (e : Expr ℕ) (t : List Step) → steps_from ws i ≡ spell e t → Right (value (sizes p) binary64 (inputs_of bs) (cells_of names) n e) out
 
 -- a value counts its places, and what is like it has the same count
@@ -38,7 +38,7 @@ unfolding Alike
 count_like (faulty e) x = elim x [ ]
 count_like (counted a c l m) (like_val _ b _ h) = (m, omega (arith, l, ap size h.0))
 
-module _ (ws bs : List ℕ) (names : Vec Cell Global) (i n : ℕ) where
+module _ (ws bs : List ℕ) (names : Vec (Option owned.Array) Global) (i n : ℕ) where
   -- the two ways to return
   pub evaluated : (v : Valued) → Stands ws i → Skips ws i v.next → Rightly ws bs names i n (Ok v.made) → Evaluates ws bs names i n (Ok v)
   evaluated v st k r =

@@ -1,6 +1,6 @@
 pub mod Axes
 pub mod Broadcasting
-pub mod Filling
+pub mod Cutting
 pub mod Numbering
 pub mod Measures
 pub mod Gathering
@@ -17,5 +17,6 @@ pub mod Measured
 pub mod Operating
 pub mod Evaluating
 pub mod Stating
+pub mod Leading
 pub mod Lining
 pub mod Beginning

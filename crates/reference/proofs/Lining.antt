@@ -261,7 +261,7 @@ other_line Cut o a l u h = o
 other_line (Join x) o a l u h = o
 other_line Rows o a l u h = o
 other_line (Item k) o a l u h = o
-other_line (Slice f b s m) o a l u h = o
+other_line (Slice s) o a l u h = o
 
 pub no_other_line : (ws : List ℕ) (i : ℕ) (x : Step) → At ws i x → Runs ws i → plain x → ((k : ℕ) → x ≡ Let k → ⊥) → ((k : ℕ) → x ≡ Put k → ⊥) → (x ≡ Show → ⊥) → ⊥
 no_other_line ws i x at st a l u h = other_line x (runs_opens ws i x at refl st) a l u h
@@ -316,7 +316,7 @@ plain_other Cut e a = tt
 plain_other (Join x) e a = tt
 plain_other Rows e a = tt
 plain_other (Item k) e a = tt
-plain_other (Slice f b s m) e a = tt
+plain_other (Slice s) e a = tt
 
 pub line_there : (ws : List ℕ) (i : ℕ) (x : Step) → At ws i x → i < length (steps_in ws)
 line_there ws i x at = at.there

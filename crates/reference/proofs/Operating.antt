@@ -337,7 +337,7 @@ no_other_single Cut a ea fo sc sh tu cu = cu refl
 no_other_single (Join x) a ea fo sc sh tu cu = double_single a
 no_other_single Rows a ea fo sc sh tu cu = double_single a
 no_other_single (Item k) a ea fo sc sh tu cu = zero_single a
-no_other_single (Slice f b s m) a ea fo sc sh tu cu = zero_single a
+no_other_single (Slice s) a ea fo sc sh tu cu = zero_single a
 
 pub no_other_double : (s : Step) → arity_of s ≡ Double → ((k : Binary) → s ≡ Both k → ⊥) → ((x : ℕ) → s ≡ Join x → ⊥) → (s ≡ Rows → ⊥) → ⊥
 no_other_double End a bo jo ro = zero_double a
@@ -360,4 +360,4 @@ no_other_double Cut a bo jo ro = single_double a
 no_other_double (Join x) a bo jo ro = jo x refl
 no_other_double Rows a bo jo ro = ro refl
 no_other_double (Item k) a bo jo ro = zero_double a
-no_other_double (Slice f b s m) a bo jo ro = zero_double a
+no_other_double (Slice s) a bo jo ro = zero_double a

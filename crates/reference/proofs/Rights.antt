@@ -1,19 +1,18 @@
 -- Answers that are right: of what is made, of a value that goes on, and of one like another.
-use Rattle.std.proofs.Common.{◌≡◌, ℕ, ◌+◌, ◌<◌, ◌≤◌, Bool, true, false, IfOk, Ok, Err, Result, sym, ap, ◌∙◌, subst, arith}
+use Rattle.std.proofs.Common.{◌≡◌, ℕ, ◌+◌, ◌<◌, ◌≤◌, Bool, true, false, Option, None, IsErrAnd, Ok, Err, Result, ok_or, sym, ap, ◌∙◌, subst, arith}
+use Rattle.std.proofs.lemmas.Result.{err_from_is_err_and}
 use Rattle.std.proofs.lemmas.Bool.{le-leb, lt-leb}
-use Rattle.std.specs.declared.alloc.AllocError.{AllocError}
 use Rattle.semantics.specs.Shapes.{pick, size}
 use Rattle.semantics.specs.Arrays.{Array, Alike}
 use Rattle.semantics.specs.Values.{Value, fault, val, then, made}
 use Rattle.semantics.specs.ValueLaws.{LikeValues, like_fault, like_val}
 use Rattle.semantics.proofs.Likes.{Twins, twins, alike_twins, twins_alike}
-use Rattle.reference.specs.declared.array.Array as owned
+use Rattle.reference.specs.declared.fault.Fault.{Fault}
 use Rattle.reference.specs.declared.fault.Fault.TheVariants.{Places}
 use Rattle.reference.specs.declared.fault.Stop.{Stop}
-use Rattle.reference.specs.declared.fault.Stop.TheVariants.{Fault as Faulty}
+use Rattle.reference.specs.declared.fault.Stop.TheVariants.{Fault as Faulty, Memory}
 use Rattle.reference.specs.declared.made.Made.{Made}
 use Rattle.reference.specs.ArrayOf.{array_of}
-use Rattle.reference.specs.Finishing.{finished}
 use Rattle.reference.specs.Right.{Right, right_made, right_fault, right_memory}
 
 pub twins_trans : {Num : Type 0} {a b c : Array Num} → Twins a b → Twins b c → Twins a c
@@ -48,9 +47,9 @@ unfolding made
 made_val n c t a e h =
     ap (λ b. pick b (val a (c + size a.shape)) (fault 5)) (le-leb (c + size a.shape) n (omega arith)) ∙ ap (val a) (sym e)
 
-pub right_finished : (n c t : ℕ) (a : Array ℕ) (r : Result owned.Array AllocError) → IfOk r (λ b. Alike (array_of b) a) → t ≡ c + size a.shape → t ≤ n → Right (made n c a) (finished r t)
-right_finished n c t a (Ok b) h e l = right_made (subst (λ v. LikeValues v (val (array_of b) t)) (sym (made_val n c t a e l)) (like_val _ _ t (alike_back (array_of b) a h)))
-right_finished n c t a (Err x) h e l = right_memory
+pub right_taken : (n c : ℕ) (a : Array ℕ) (m : Made) → Alike (array_of m.array) a → m.count ≡ c + size a.shape → m.count ≤ n → Right (made n c a) (Ok m)
+right_taken n c a m h e l =
+    right_made (subst (λ v. LikeValues v (val (array_of m.array) m.count)) (sym (made_val n c m.count a e l)) (like_val _ _ m.count (alike_back (array_of m.array) a h)))
 
 -- a value that goes on
 pub right_stopped : {v : Value ℕ} {s : Stop} (f : Array ℕ → ℕ → Value ℕ) → Right v (Err s) → Right (then v f) (Err s)
@@ -69,9 +68,19 @@ right_ok (right_made h) = h
 pub right_is : {v w : Value ℕ} {r : Result Made Stop} → v ≡ w → Right w r → Right v r
 right_is {r = r} e h = subst (λ x. Right x r) (sym e) h
 
--- what `finish` answers
-pub right_finish : (n c t : ℕ) (a : Array ℕ) (r : Result owned.Array AllocError) (out : Result Made Stop) → out ≡ finished r t → IfOk r (λ b. Alike (array_of b) a) → t ≡ c + size a.shape → t ≤ n → Right (made n c a) out
-right_finish n c t a r out o h e l = subst (λ x. Right (made n c a) x) (sym o) (right_finished n c t a r h e l)
+-- the exits of a `?`: a stop of another call, a fault, no memory
+pub right_exit : {v : Value ℕ} (r : Result Made Stop) {x : Stop} → IsErrAnd r (λ y. y ≡ x) → Right v (Err x) → Right v r
+right_exit {v} r b h = let q = err_from_is_err_and r b in subst (λ z. Right v z) (sym (q.1 ∙ ap Err q.2)) h
+
+pub right_refusal : {v : Value ℕ} (r : Result Made Stop) {x f : Fault} → IsErrAnd r (λ y. y ≡ Faulty x) → x ≡ f → Right v (Err (Faulty f)) → Right v r
+right_refusal {v} r b e h = right_exit r b (subst (λ f. Right v (Err (Faulty f))) (sym e) h)
+
+pub right_wanting : {v : Value ℕ} (r : Result Made Stop) → IsErrAnd r (λ y. y ≡ Memory) → Right v r
+right_wanting r b = right_exit r b right_memory
+
+-- the error of an `ok_or`
+pub refused_as : {A : Type 0} (o : Option A) (x f : Fault) → o ≡ None → ◌≡◌ {A = Result A Fault} (Err x) (ok_or o f) → x ≡ f
+refused_as o x f n e = let h = rw n at e in cc
 
 -- a test and its fault
 pub right_if : (b : Bool) (v w : Value ℕ) {r : Result Made Stop} → b ≡ true → Right v r → Right (pick b v w) r

@@ -1,20 +1,14 @@
 -- Slices axis by axis.
-use Rattle.std.proofs.Common.{◌≡◌, ℕ, zero, suc, ◌+◌, ◌/◌, ◌<◌, ◌≤◌, true, false, ◌&&◌, List, [], ◌∷◌, length, get_or, drop, sym, refl, ap, ◌∙◌, subst, arith}
+use Rattle.std.proofs.Common.{◌≡◌, ℕ, zero, suc, ◌+◌, ◌/◌, ◌<◌, ◌≤◌, true, ◌&&◌, List, [], ◌∷◌, length, get_or, drop, sym, refl, ap, ◌∙◌, subst, arith}
 use Rattle.std.proofs.lemmas.List.{drop_more, drop_all, length-map, get_or-map}
 use Rattle.std.proofs.lemmas.Bool.{and_parts, false≢true}
-use Rattle.semantics.specs.Parts.{Part, place_of, part_fits, parts_fit, part_shape, places_of, apart, in_part, in_parts, which_one}
+use Rattle.semantics.specs.Parts.{Part, place_of, part_fits, parts_fit, places_of, apart, in_part, in_parts, which_one}
 use Rattle.semantics.proofs.Axes.{fits_step}
-use Rattle.reference.specs.declared.slice.Slice.{Slice}
-use Rattle.reference.specs.PartsOf.{part_of, parts_of, Stepping}
+use Rattle.semantics.specs.declared.slice.Slice.{Slice}
+use Rattle.semantics.specs.Slices.{part_of, parts_of}
+use Rattle.reference.specs.PartsOf.{Stepping}
 
 -- ---- whether slices fit
-pub parts_fit_other : (ps : List Part) (s : List ℕ) → (length ps ≡ length s → ⊥) → parts_fit ps s ≡ false
-unfolding parts_fit
-parts_fit_other [] [] h = absurd (h refl)
-parts_fit_other [] (d ∷ s) h = refl
-parts_fit_other (p ∷ ps) [] h = refl
-parts_fit_other (p ∷ ps) (d ∷ s) h = let more = parts_fit_other ps s (λ e. h (ap suc e)) in grind arith
-
 pub parts_fit_length : (ps : List Part) (s : List ℕ) → parts_fit ps s ≡ true → length ps ≡ length s
 unfolding parts_fit
 parts_fit_length [] [] e = refl
@@ -25,19 +19,6 @@ parts_fit_length (p ∷ ps) (d ∷ s) e = ap suc (parts_fit_length ps s (and_par
 pub slices_length : (xs : List Slice) (s : List ℕ) → parts_fit (parts_of xs) s ≡ true → length xs ≡ length s
 slices_length xs s e = sym (length-map xs part_of) ∙ parts_fit_length (parts_of xs) s e
 
-pub slices_other : (xs : List Slice) (s : List ℕ) → (length xs ≡ length s → ⊥) → parts_fit (parts_of xs) s ≡ false
-slices_other xs s h = parts_fit_other (parts_of xs) s (λ e. h (sym (length-map xs part_of) ∙ e))
-
-module _ (d : Slice) (xs : List Slice) (s : List ℕ) (k : ℕ) where
-  pub fit_drop : k < length xs → k < length s →
-      parts_fit (parts_of (drop k xs)) (drop k s) ≡ (part_fits (part_of (get_or xs k d)) (get_or s k 0) && parts_fit (parts_of (drop (k + 1) xs)) (drop (k + 1) s))
-  unfolding parts_fit
-  fit_drop l m = ap (λ ys. parts_fit (parts_of ys) (drop k s)) (drop_more xs k d l) ∙ ap (λ t. parts_fit (parts_of (get_or xs k d ∷ drop (k + 1) xs)) t) (drop_more s k 0 m)
-
-  pub fit_end : length xs ≤ k → length s ≤ k → parts_fit (parts_of (drop k xs)) (drop k s) ≡ true
-  unfolding parts_fit
-  fit_end l m = ap (λ ys. parts_fit (parts_of ys) (drop k s)) (drop_all k xs l) ∙ ap (λ t. parts_fit [] t) (drop_all k s m)
-
 pub fits_at : (d : Slice) (xs : List Slice) (s : List ℕ) (k : ℕ) → parts_fit (parts_of xs) s ≡ true → k < length s → part_fits (part_of (get_or xs k d)) (get_or s k 0) ≡ true
 unfolding parts_fit
 fits_at d [] [] k e l = absurd (omega arith)
@@ -45,18 +26,6 @@ fits_at d [] (n ∷ s) k e l = absurd (false≢true e)
 fits_at d (x ∷ xs) [] k e l = absurd (omega arith)
 fits_at d (x ∷ xs) (n ∷ s) zero e l = (and_parts (part_fits (part_of x) n) (parts_fit (parts_of xs) s) e).0
 fits_at d (x ∷ xs) (n ∷ s) (suc k) e l = fits_at d xs s k (and_parts (part_fits (part_of x) n) (parts_fit (parts_of xs) s) e).1 (omega arith)
-
--- ---- the shape of slices
-pub length_part_shape : (xs : List Slice) → length (part_shape (parts_of xs)) ≡ length xs
-unfolding part_shape
-length_part_shape [] = refl
-length_part_shape (x ∷ xs) = ap suc (length_part_shape xs)
-
-pub get_d_part_shape : (d : Slice) (xs : List Slice) (k : ℕ) → k < length xs → get_or (part_shape (parts_of xs)) k 0 ≡ (get_or xs k d).many
-unfolding part_shape
-get_d_part_shape d [] k l = absurd (omega arith)
-get_d_part_shape d (x ∷ xs) zero l = refl
-get_d_part_shape d (x ∷ xs) (suc k) l = get_d_part_shape d xs k (omega arith)
 
 -- ---- the places that slices show
 pub length_places_of : (xs : List Slice) (is : List ℕ) → length xs ≤ length is → length (places_of (parts_of xs) is) ≡ length xs

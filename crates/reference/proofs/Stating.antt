@@ -1,5 +1,5 @@
 -- Statements, against the meaning's states.
-use Rattle.std.proofs.Common.{◌≡◌, ℕ, zero, suc, ◌-◌, ◌^◌, ◌<◌, ◌≤◌, true, false, List, [], ◌∷◌, ◌++◌, map, length, get_or, set, IsErrAnd, Ok, Err, vec_items, Result, Vec, sym, refl, ap, ◌∙◌, subst, arith, length-set}
+use Rattle.std.proofs.Common.{◌≡◌, ℕ, zero, suc, ◌-◌, ◌^◌, ◌<◌, ◌≤◌, true, false, List, [], ◌∷◌, ◌++◌, map, length, get_or, set, IsErrAnd, Ok, Err, vec_items, Result, Vec, sym, refl, ap, ◌∙◌, subst, arith, length-set, Option, Some}
 use Rattle.std.specs.declared.alloc.Global.{Global}
 use Rattle.std.proofs.lemmas.Result.{err_from_is_err_and}
 use Rattle.std.proofs.lemmas.List.{length-map, map-set, flat_map_more}
@@ -22,19 +22,17 @@ use Rattle.encoding.specs.ShapeOf.{shape_of}
 use Rattle.encoding.specs.Writing.{array_bytes}
 use Rattle.encoding.specs.ReadBack.{shown_bytes}
 use Rattle.reference.specs.declared.array.Array as owned
+use Rattle.reference.specs.declared.fault.Fault.{Fault}
 use Rattle.reference.specs.declared.fault.Fault.TheVariants.{Shapes, Range, Nothing}
 use Rattle.reference.specs.declared.fault.Stop.{Stop}
 use Rattle.reference.specs.declared.fault.Stop.TheVariants.{Fault as Faulty, Memory}
 use Rattle.reference.specs.declared.evaluate.Valued.{Valued}
 use Rattle.reference.specs.declared.made.Made.{Made}
-use Rattle.reference.specs.declared.names.Cell.{Cell}
-use Rattle.reference.specs.declared.names.Cell.TheVariants.{Holds}
 use Rattle.reference.specs.declared.state.State.{State}
 use Rattle.reference.specs.ArrayOf.{array_of}
 use Rattle.reference.specs.CellsOf.{cell_of, cells_of, sizes}
 use Rattle.reference.specs.Right.{Right, right_fault, right_memory}
-use Rattle.reference.specs.Running.{Stood, Went, went, faulted, wanting, SmallNames, Replaces, replaces, replaces_not, replaces_wanting, ReplacesIn}
-use Rattle.reference.proofs.Cells.{cell_there}
+use Rattle.reference.specs.Running.{Stood, Went, went, faulted, wanting, SmallNames, Replaces, replaces, replaces_not, replaces_wanting, ReplacesIn, ReplacesAt}
 use Rattle.reference.proofs.Rights.{right_ok, twins_trans, alike_back}
 
 -- ---- an expression of a statement
@@ -53,23 +51,23 @@ get_d_set_either P (y ∷ xs) zero (suc j) x d p q = q
 get_d_set_either P (y ∷ xs) (suc k) zero x d p q = q
 get_d_set_either P (y ∷ xs) (suc k) (suc j) x d p q = get_d_set_either P xs k j x d p q
 
-pub small_set : (old new : Vec Cell Global) (k : ℕ) (a : owned.Array) → size (shape_of a.shape) ≤ 2 ^ 26 → vec_items new ≡ set (vec_items old) k (Holds a) → SmallNames old → SmallNames new
+pub small_set : (old new : Vec (Option owned.Array) Global) (k : ℕ) (a : owned.Array) → size (shape_of a.shape) ≤ 2 ^ 26 → vec_items new ≡ set (vec_items old) k (Some a) → SmallNames old → SmallNames new
 unfolding cell_size
 small_set old new k a l e h =
     record {
       on = λ j.
-          subst (λ cs. cell_size (get_or cs j none) ≤ 2 ^ 26) (sym (ap (map cell_of) e ∙ map-set cell_of (vec_items old) k (Holds a)))
+          subst (λ cs. cell_size (get_or cs j none) ≤ 2 ^ 26) (sym (ap (map cell_of) e ∙ map-set cell_of (vec_items old) k (Some a)))
           (get_d_set_either (λ c. cell_size c ≤ 2 ^ 26) (cells_of old) k j (some (array_of a)) none l (h.on j));
     }
 
 module _ (t : meaning.State ℕ) (st : State) (h : Stood t st) where
-  pub stood_set : (k : ℕ) (x : Array ℕ) (a : owned.Array) (new : Vec Cell Global) → vec_items new ≡ set (vec_items st.names) k (Holds a) → Alike x (array_of a) → Stood (with_name t k x) (record { names = new; shown = st.shown })
+  pub stood_set : (k : ℕ) (x : Array ℕ) (a : owned.Array) (new : Vec (Option owned.Array) Global) → vec_items new ≡ set (vec_items st.names) k (Some a) → Alike x (array_of a) → Stood (with_name t k x) (record { names = new; shown = st.shown })
   unfolding with_name
   stood_set k x a new e l =
       record {
         many = length-set t.names k _ ∙ h.many;
         full = ap length e ∙ (length-set (vec_items st.names) k _ ∙ h.full);
-        names = subst (λ cs. LikeNames (set t.names k (some x)) cs) (sym (ap (map cell_of) e ∙ map-set cell_of (vec_items st.names) k (Holds a)))
+        names = subst (λ cs. LikeNames (set t.names k (some x)) cs) (sym (ap (map cell_of) e ∙ map-set cell_of (vec_items st.names) k (Some a)))
             (like_set t.names (cells_of st.names) k (omega (arith, h.many, h.full, length-map (vec_items st.names) cell_of)) h.names (like_some _ _ l));
         shown = h.shown;
         ended = refl;
@@ -82,7 +80,7 @@ module _ (p : ℕ) (t : meaning.State ℕ) (st : State) (h : Stood t st) (k : �
   let_stop (right_fault {f = f} e) = subst (λ w. Went (becomes (sizes p) t k w) st (Err (Faulty f))) (sym e) (faulted refl h.shown)
   let_stop {v = v} right_memory = wanting t.shown (since_becomes (sizes p) t k v).shown h.shown
 
-  pub let_nowhere : {v : Value ℕ} {m : Made} (new : Vec Cell Global) → Right v (Ok m) → length (vec_items st.names) ≤ k → Went (becomes (sizes p) t k v) (record { names = new; shown = st.shown }) (Err (Faulty Nothing))
+  pub let_nowhere : {v : Value ℕ} {m : Made} (new : Vec (Option owned.Array) Global) → Right v (Ok m) → length (vec_items st.names) ≤ k → Went (becomes (sizes p) t k v) (record { names = new; shown = st.shown }) (Err (Faulty Nothing))
   unfolding becomes stopped
   let_nowhere new r l = go (right_ok r)
     where
@@ -90,7 +88,7 @@ module _ (p : ℕ) (t : meaning.State ℕ) (st : State) (h : Stood t st) (k : �
       go (like_val a b c e) =
           subst (λ y. Went (pick y (with_name t k a) (stopped t 6)) (record { names = new; shown = st.shown }) (Err (Faulty Nothing))) (sym (le-ltb k 64 (omega (arith, l, h.full)))) (faulted refl h.shown)
 
-  pub let_done : {x : ℕ} {v : Value ℕ} {m : Made} (new : Vec Cell Global) → Right v (Ok m) → k < length (vec_items st.names) → vec_items new ≡ set (vec_items st.names) k (Holds m.array) → Went (becomes (sizes p) t k v) (record { names = new; shown = st.shown }) (Ok x)
+  pub let_done : {x : ℕ} {v : Value ℕ} {m : Made} (new : Vec (Option owned.Array) Global) → Right v (Ok m) → k < length (vec_items st.names) → vec_items new ≡ set (vec_items st.names) k (Some m.array) → Went (becomes (sizes p) t k v) (record { names = new; shown = st.shown }) (Ok x)
   unfolding becomes
   let_done {x} {m = m} new r l s = go (right_ok r)
     where
@@ -143,6 +141,9 @@ went_exit u st r x b h =
     let q = err_from_is_err_and r b in
     subst (λ z. Went u st z) (sym q.1) (subst (λ y. Went u st (Err y)) (sym q.2) h)
 
+pub went_fault : (u : meaning.State ℕ) (st : State) (r : Result ℕ Stop) (x f : Fault) → IsErrAnd r (λ y. y ≡ Faulty x) → x ≡ f → Went u st (Err (Faulty f)) → Went u st r
+went_fault u st r x f b e h = went_exit u st r (Faulty x) b (subst (λ y. Went u st (Err (Faulty y))) (sym e) h)
+
 -- ---- put
 module _ (t : meaning.State ℕ) (st : State) (h : Stood t st) (k : ℕ) where
   pub put_stop : {u : meaning.State ℕ} {x : Stop} → Since t u → Replaces t u k (Err x) → Went u st (Err x)
@@ -150,7 +151,7 @@ module _ (t : meaning.State ℕ) (st : State) (h : Stood t st) (k : ℕ) where
   put_stop n (replaces_not {f} e) = subst (λ w. Went w st (Err (Faulty f))) (sym e) (faulted refl h.shown)
   put_stop n replaces_wanting = wanting t.shown n.shown h.shown
 
-  pub put_done : {u : meaning.State ℕ} {x : ℕ} {v : Valued} (new : Vec Cell Global) → Replaces t u k (Ok v) → vec_items new ≡ set (vec_items st.names) k (Holds v.made.array) → Went u (record { names = new; shown = st.shown }) (Ok x)
+  pub put_done : {u : meaning.State ℕ} {x : ℕ} {v : Valued} (new : Vec (Option owned.Array) Global) → Replaces t u k (Ok v) → vec_items new ≡ set (vec_items st.names) k (Some v.made.array) → Went u (record { names = new; shown = st.shown }) (Ok x)
   put_done {x = x} {v = v} new (replaces a e l) s =
       subst (λ w. Went w (record { names = new; shown = st.shown }) (Ok x)) (sym e) (went (stood_set t st h k a v.made.array new s l))
 
@@ -208,15 +209,19 @@ unfolding Alike put_array
 size_put ps x y a h l = omega (arith, ap size h.0, l)
 
 -- the exit of a `?`, where an array is replaced
-pub replaces_exit : (ws bs : List ℕ) (names : Vec Cell Global) (i p : ℕ) (ps : List Part) (r : Result Valued Stop) (k : ℕ) (old : Cell) (x : Stop) → IsErrAnd r (λ y. y ≡ x) → ReplacesIn ws bs names i p ps (Err x) k old → ReplacesIn ws bs names i p ps r k old
+pub replaces_exit : (ws bs : List ℕ) (names : Vec (Option owned.Array) Global) (i p : ℕ) (ps : List Part) (r : Result Valued Stop) (k : ℕ) (old : Option owned.Array) (x : Stop) → IsErrAnd r (λ y. y ≡ x) → ReplacesIn ws bs names i p ps (Err x) k old → ReplacesIn ws bs names i p ps r k old
 replaces_exit ws bs names i p ps r k old x b h =
     let q = err_from_is_err_and r b in
     subst (λ z. ReplacesIn ws bs names i p ps z k old) (sym q.1) (subst (λ y. ReplacesIn ws bs names i p ps (Err y) k old) (sym q.2) h)
 
--- the cell that was read, in a state
-pub cell_like : (t : meaning.State ℕ) (names : Vec Cell Global) (k : ℕ) (x : Cell) → LikeNames t.names (cells_of names) → k < length (vec_items names) → x ≡ get_or (vec_items names) k x → LikeCells (get_or t.names k none) (cell_of x)
-cell_like t names k x l h e = subst (λ c. LikeCells (get_or t.names k none) c) (cell_there (vec_items names) k x h e) (l k)
-
-pub small_there : (names : Vec Cell Global) (k : ℕ) (x : Cell) (a : owned.Array) → SmallNames names → k < length (vec_items names) → x ≡ get_or (vec_items names) k x → x ≡ Holds a → size (shape_of a.shape) ≤ 2 ^ 26
+-- what a name has, in a state
+pub small_found : (names : Vec (Option owned.Array) Global) (k : ℕ) (a : owned.Array) → SmallNames names → get_or (cells_of names) k none ≡ some (array_of a) → size (shape_of a.shape) ≤ 2 ^ 26
 unfolding cell_size
-small_there names k x a s h e is = subst (λ c. cell_size c ≤ 2 ^ 26) (cell_there (vec_items names) k x h e ∙ ap cell_of is) (s.on k)
+small_found names k a s is = subst (λ c. cell_size c ≤ 2 ^ 26) is (s.on k)
+
+-- the exit of a `?`, where a name has nothing
+pub nothing_exit : (ws bs : List ℕ) (names : Vec (Option owned.Array) Global) (i p : ℕ) (ps : List Part) (k : ℕ) (r : Result Valued Stop) (x : Fault) → IsErrAnd r (λ y. y ≡ Faulty x) → x ≡ Nothing → get_or (cells_of names) k none ≡ none → ReplacesAt ws bs names i p ps k r
+nothing_exit ws bs names i p ps k r x b e n =
+    let q = err_from_is_err_and r b in
+    subst (λ z. ReplacesAt ws bs names i p ps k z) (sym (q.1 ∙ ap Err (q.2 ∙ ap Faulty e)))
+    (record { there = tt; small = tt; skips = tt; right = λ e s t h l. replace_nothing t k ps _ (l k) n })

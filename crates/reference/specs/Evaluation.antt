@@ -1,5 +1,5 @@
 -- What evaluation answers.
-use Rattle.std.specs.Prelude.{◌≡◌, ℕ, ◌≤◌, List, IfOk, Ok, Err, Result, Vec}
+use Rattle.std.specs.Prelude.{◌≡◌, ℕ, ◌≤◌, List, IfOk, Ok, Err, Result, Vec, Option}
 use Rattle.std.specs.declared.alloc.Global.{Global}
 use Rattle.semantics.specs.Shapes.{size}
 use Rattle.semantics.specs.Values.{Expr, value}
@@ -12,7 +12,7 @@ use Rattle.program.specs.Standing.{steps_from, Skips}
 use Rattle.reference.specs.declared.evaluate.Valued.{Valued}
 use Rattle.reference.specs.declared.fault.Stop.{Stop}
 use Rattle.reference.specs.declared.made.Made.{Made}
-use Rattle.reference.specs.declared.names.Cell.{Cell}
+use Rattle.reference.specs.declared.array.Array as owned
 use Rattle.reference.specs.CellsOf.{cells_of, sizes}
 use Rattle.reference.specs.Right.{Right}
 
@@ -22,7 +22,7 @@ made_of (Ok v) = Ok v.made
 made_of (Err s) = Err s
 
 -- places are counted within those left, the next node is behind every expression that stands here, and the answer is right for it
-pub record Evaluates (ws bs : List ℕ) (names : Vec Cell Global) (i n : ℕ) (r : Result Valued Stop) : Type 0 where
+pub record Evaluates (ws bs : List ℕ) (names : Vec (Option owned.Array) Global) (i n : ℕ) (r : Result Valued Stop) : Type 0 where
   pub within : IfOk r (λ v. (v.made.count ≤ n) × (size (shape_of v.made.array.shape) ≤ v.made.count))
   pub skips : IfOk r (λ v. Skips ws i v.next)
   pub right : (p : ℕ) (e : Expr ℕ) (t : List Step) → steps_from ws i ≡ spell e t → Right (value (sizes p) binary64 (inputs_of bs) (cells_of names) n e) (made_of r)

@@ -3,7 +3,6 @@ pub mod ArrayOf
 pub mod Broadcasts
 pub mod Faults
 pub mod CellsOf
-pub mod Finishing
 pub mod Right
 pub mod Operands
 pub mod Brackets

@@ -35,7 +35,7 @@ plain Cut = Unit {0}
 plain (Join x) = Unit {0}
 plain Rows = Unit {0}
 plain (Item k) = Unit {0}
-plain (Slice f b s m) = Unit {0}
+plain (Slice s) = Unit {0}
 
 -- a program is at j: q is still to run from t, with r behind it, and comes to u
 pub record Going (ws bs : List ℕ) (p j : ℕ) (st : State) (u : meaning.State ℕ) (r : List Step) : Type 0 where

@@ -37,7 +37,7 @@ arity_of Cut = Single
 arity_of (Join x) = Double
 arity_of Rows = Double
 arity_of (Item k) = Zero
-arity_of (Slice f b s m) = Zero
+arity_of (Slice s) = Zero
 
 pub data Leaf : Step → Expr ℕ → Type 0 where
   leaf_name : {k : ℕ} → Leaf (Name k) (name k)

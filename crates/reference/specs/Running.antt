@@ -1,5 +1,5 @@
 -- What the run of a program's lines answers, against the meaning's states.
-use Rattle.std.specs.Prelude.{◌≡◌, ℕ, ◌^◌, ◌<◌, ◌≤◌, List, length, IfOk, Ok, Err, vec_items, Result, Vec, slice_index_or}
+use Rattle.std.specs.Prelude.{◌≡◌, ℕ, ◌^◌, ◌<◌, ◌≤◌, List, length, IfOk, Ok, Err, vec_items, Result, Vec, slice_index_or, Option}
 use Rattle.std.specs.declared.alloc.Global.{Global}
 use Rattle.semantics.specs.Shapes.{size}
 use Rattle.semantics.specs.Parts.{Part}
@@ -21,8 +21,8 @@ use Rattle.reference.specs.declared.evaluate.Valued.{Valued}
 use Rattle.reference.specs.declared.fault.Fault.{Fault}
 use Rattle.reference.specs.declared.fault.Stop.{Stop}
 use Rattle.reference.specs.declared.fault.Stop.TheVariants.{Fault as Faulty, Memory}
-use Rattle.reference.specs.declared.names.Cell.{Cell}
 use Rattle.reference.specs.declared.state.State.{State}
+use Rattle.reference.specs.declared.array.Array as owned
 use Rattle.reference.specs.ArrayOf.{array_of}
 use Rattle.reference.specs.CellsOf.{cell_of, cells_of, sizes}
 use Rattle.reference.specs.Evaluation.{made_of}
@@ -30,7 +30,7 @@ use Rattle.reference.specs.Faults.{fault_number}
 use Rattle.reference.specs.Right.{Right}
 
 -- an expression of a statement: like evaluation, for every state whose names have arrays like these
-pub record EvaluatesIn (ws bs : List ℕ) (names : Vec Cell Global) (i p : ℕ) (r : Result Valued Stop) : Type 0 where
+pub record EvaluatesIn (ws bs : List ℕ) (names : Vec (Option owned.Array) Global) (i p : ℕ) (r : Result Valued Stop) : Type 0 where
   pub small : IfOk r (λ v. size (shape_of v.made.array.shape) ≤ 2 ^ 26)
   pub skips : IfOk r (λ v. Skips ws i v.next)
   pub right : (e : Expr ℕ) (s : List Step) (t : meaning.State ℕ) → steps_from ws i ≡ spell e s → LikeNames t.names (cells_of names) → Right (value_in (sizes p) binary64 (inputs_of bs) t e) (made_of r)
@@ -51,7 +51,7 @@ pub data Went (u : meaning.State ℕ) (st : State) : Result ℕ Stop → Type 0 
   wanting : (hs : List (Shown ℕ)) → Begins hs u.shown → shown_bytes hs ≡ vec_items st.shown → Went u st (Err Memory)
 
 -- no name holds more than 2^26 places
-pub record SmallNames (names : Vec Cell Global) : Type 0 where
+pub record SmallNames (names : Vec (Option owned.Array) Global) : Type 0 where
   pub on : (k : ℕ) → cell_size (slice_index_or (cells_of names) k none) ≤ 2 ^ 26
 
 -- slices and an expression that stand at i are followed by what stands at j
@@ -64,13 +64,13 @@ pub data Replaces (t u : meaning.State ℕ) (k : ℕ) : Result Valued Stop → T
   replaces_not : {f : Fault} → u ≡ stopped t (fault_number f) → Replaces t u k (Err (Faulty f))
   replaces_wanting : Replaces t u k (Err Memory)
 
-pub record ReplacesIn (ws bs : List ℕ) (names : Vec Cell Global) (i p : ℕ) (ps : List Part) (r : Result Valued Stop) (k : ℕ) (old : Cell) : Type 0 where
+pub record ReplacesIn (ws bs : List ℕ) (names : Vec (Option owned.Array) Global) (i p : ℕ) (ps : List Part) (r : Result Valued Stop) (k : ℕ) (old : Option owned.Array) : Type 0 where
   pub small : IfOk r (λ v. size (shape_of v.made.array.shape) ≤ 2 ^ 26)
   pub skips : IfOk r (λ v. Skips ws i v.next)
   pub right : (e : Expr ℕ) (s : List Step) (t : meaning.State ℕ) (c : values.Cell ℕ) → steps_from ws i ≡ spell e s → LikeNames t.names (cells_of names) → LikeCells c (cell_of old) → Replaces t (is_put t k ps c (value_in (sizes p) binary64 (inputs_of bs) t e)) k r
 
 -- the same for a name, which is there
-pub record ReplacesAt (ws bs : List ℕ) (names : Vec Cell Global) (i p : ℕ) (ps : List Part) (k : ℕ) (r : Result Valued Stop) : Type 0 where
+pub record ReplacesAt (ws bs : List ℕ) (names : Vec (Option owned.Array) Global) (i p : ℕ) (ps : List Part) (k : ℕ) (r : Result Valued Stop) : Type 0 where
   pub there : IfOk r (λ v. k < length (vec_items names))
   pub small : IfOk r (λ v. size (shape_of v.made.array.shape) ≤ 2 ^ 26)
   pub skips : IfOk r (λ v. Skips ws i v.next)

@@ -9,7 +9,7 @@ ghost use Rattle.reference.specs.IndicesOf.{indices_of};
 use crate::array::Array;
 use crate::place::Place;
 use crate::place::axes::{index_along, with_index};
-use crate::shapes::{axis_length, rank, remove_axis, same_lengths, with_length};
+use crate::shapes::{axis_length, rank, remove_axis, with_length};
 use crate::tabulate::{Source, tabulate};
 use encoding::shape::Shape;
 use std::alloc::{AllocError, Global};
@@ -24,10 +24,7 @@ pub fn joinable(axis: usize, left: &Array, right: &Array) -> bool
     }
     let total = u64::from(axis_length(&left.shape, axis))
         + u64::from(axis_length(&right.shape, axis));
-    let others = same_lengths(
-        &remove_axis(&left.shape, axis),
-        &remove_axis(&right.shape, axis),
-    );
+    let others = remove_axis(&left.shape, axis) == remove_axis(&right.shape, axis);
     others && total < 1 << 32
 }
 

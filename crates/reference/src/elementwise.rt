@@ -10,9 +10,10 @@ ghost use Rattle.reference.specs.IndicesOf.{indices_of};
 ghost use Rattle.reference.specs.Broadcasts.{Reaches};
 
 use crate::array::Array;
-use crate::broadcast::{broadcast, get_narrow};
+use crate::broadcast::get_narrow;
 use crate::place::Place;
 use crate::tabulate::{Source, tabulate};
+use encoding::broadcast::broadcast;
 use numbers::{binary, truth, unary};
 use semantics::operation::{Binary, Unary};
 use std::alloc::{AllocError, Global};

@@ -1,9 +1,12 @@
 // Why a program stops before its end.
 ghost use Rattle.std.specs.Prelude.{◌≡◌};
 ghost use Rattle.reference.specs.Faults.{fault_number};
+ghost use Rattle.reference.specs.declared.fault.Stop.TheVariants.{Fault as Faulty, Memory};
+
+use std::alloc::AllocError;
 
 // What the language says is wrong, in the order of the faults' numbers.
-#[derive(Clone, Copy, PartialEq, Eq)]
+#[derive(Clone, Copy, Debug, PartialEq, Eq)]
 pub enum Fault {
     // shapes that cannot be broadcast or joined
     Shapes,
@@ -20,22 +23,40 @@ pub enum Fault {
 }
 
 // A fault, or the allocator has no more: of that the language says nothing.
-#[derive(Clone, Copy, PartialEq, Eq)]
+#[derive(Clone, Copy, Debug, PartialEq, Eq)]
 pub enum Stop {
     Fault(Fault),
     Memory,
 }
 
 // The number of a fault.
-pub fn fault_number(fault: Fault) -> u32
-    ensures { result ≡ fault_number fault }
-{
-    match fault {
-        Fault::Shapes => 1,
-        Fault::Axes => 2,
-        Fault::Count => 3,
-        Fault::Range => 4,
-        Fault::Places => 5,
-        Fault::Nothing => 6,
+impl From<Fault> for u32 {
+    ghost from_gives = { λ fault r. r ≡ fault_number fault };
+
+    fn from(fault: Fault) -> u32 {
+        match fault {
+            Fault::Shapes => 1,
+            Fault::Axes => 2,
+            Fault::Count => 3,
+            Fault::Range => 4,
+            Fault::Places => 5,
+            Fault::Nothing => 6,
+        }
+    }
+}
+
+impl From<Fault> for Stop {
+    ghost from_gives = { λ fault r. r ≡ Faulty fault };
+
+    fn from(fault: Fault) -> Stop {
+        Stop::Fault(fault)
+    }
+}
+
+impl From<AllocError> for Stop {
+    ghost from_gives = { λ _ r. r ≡ Memory };
+
+    fn from(_e: AllocError) -> Stop {
+        Stop::Memory
     }
 }

@@ -1,5 +1,6 @@
 // Rows of an array, looked up by the numbers of another.
-ghost use Rattle.std.specs.Prelude.{◌≡◌, ◌^◌, ◌<◌, ◌≤◌, true, ◌∷◌, ◌++◌, length, take, drop, IfOk, MatchOption};
+ghost use Rattle.std.specs.Prelude.{◌≡◌, ◌^◌, ◌<◌, ◌≤◌, true, ◌∷◌, ◌++◌, length, take, drop, IfOk, MatchOption, nat_lt};
+ghost use Rattle.std.specs.List.{list_all};
 ghost use Rattle.semantics.specs.Shapes.{size, In};
 ghost use Rattle.semantics.specs.Arrays.{Alike, rows_there, rows_array};
 ghost use Rattle.numbers.specs.Operations.{binary64};
@@ -16,18 +17,19 @@ use encoding::shape::Shape;
 use numbers::index;
 use std::alloc::{AllocError, Global};
 
+fn all_below(numbers: &[u64], len: u64) -> bool
+    ensures { result ≡ list_all (λ x. nat_lt (binary64.index x) len) numbers.now }
+{
+    numbers.iter().all(|&x| index(x) < len)
+}
+
 // Whether each number of `rows` is an index along the first axis of `array`.
 pub fn rows_exist(array: &Array, rows: &Array) -> bool
     requires axes { 0 < length (shape_of array.now.shape) }
     ensures { result ≡ rows_there binary64 (array_of array.now) (array_of rows.now) }
 {
     let len = u64::from(axis_length(&array.shape, 0));
-    for n in 0..rows.numbers.len() {
-        if index(rows.numbers[n]) >= len {
-            return false;
-        }
-    }
-    true
+    all_below(rows.numbers.as_slice(), len)
 }
 
 // The shape of `rows`, and then that of a row of `array`; none where there are more than eight axes.
@@ -40,9 +42,7 @@ pub fn gathered_shape(array: &Shape, rows: &Shape) -> Option<Shape>
         return None;
     }
     let mut lens = rows.lens;
-    for k in rows.rank..rank {
-        lens[k] = array.lens[k + 1 - rows.rank];
-    }
+    lens[rows.rank..rank].copy_from_slice(&array.lens[1..array.rank]);
     Some(Shape { rank, lens })
 }
 

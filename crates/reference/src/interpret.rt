@@ -4,35 +4,25 @@ ghost use Rattle.semantics.specs.Programs.{nothing};
 ghost use Rattle.reference.specs.CellsOf.{cells_of};
 ghost use Rattle.reference.specs.Interpreting.{ProgramStands, Interprets};
 
-use crate::fault::{Fault, Stop};
-use crate::names::Cell;
-use crate::run::run_lines;
+use crate::array::Array;
+use crate::fault::Stop;
 use crate::state::State;
+use crate::task::Task;
 use std::alloc::{AllocError, Global};
-
-// How a program ends.
-#[derive(Clone, Copy)]
-pub enum End {
-    Done,
-    Fault(Fault),
-    Memory,
-}
 
 // What a program showed, array after array as bytes, and how it ended.
 #[derive(Drop)]
 pub struct Outcome {
     pub shown: Vec<u8>,
-    pub end: End,
+    pub end: Result<(), Stop>,
 }
 
 // As many names as there may be, with nothing.
-fn empty_names(heap: Global) -> Result<Vec<Cell>, AllocError>
+fn empty_names(heap: Global) -> Result<Vec<Option<Array>>, AllocError>
     ensures { IfOk result (λ v. cells_of v ≡ nothing 64) }
 {
     let mut names = Vec::new(heap);
-    for k in 0..64usize {
-        names.push(Cell::Empty)?;
-    }
+    names.resize_with(64, || None)?;
     Ok(names)
 }
 
@@ -44,35 +34,24 @@ pub fn interpret(heap: Global, words: &[u32], inputs: &[u8], places: u64) -> Out
     ensures { Interprets words.now inputs.now places result }
 {
     let shown = Vec::new(heap);
-    let names = match empty_names(heap) {
-        Ok(names) => names,
-        Err(_) => {
-            return Outcome {
-                shown,
-                end: End::Memory,
-            };
-        }
+    // Stays: an outcome says what was shown beside how the run ended, so there is no `Result` for a `?` to leave with.
+    let Ok(names) = empty_names(heap) else {
+        return Outcome {
+            shown,
+            end: Err(Stop::Memory),
+        };
     };
     let mut state = State { names, shown };
-    let ran = run_lines(heap, words, inputs, places, 0, &mut state);
+    let task = Task {
+        heap,
+        words,
+        inputs,
+        places,
+    };
+    let end = task.run_lines(0, &mut state).map(|_| ());
     let State {
         names: _names,
         shown,
     } = state;
-    match ran {
-        Ok(_) => Outcome {
-            shown,
-            end: End::Done,
-        },
-        Err(stop) => match stop {
-            Stop::Fault(fault) => Outcome {
-                shown,
-                end: End::Fault(fault),
-            },
-            Stop::Memory => Outcome {
-                shown,
-                end: End::Memory,
-            },
-        },
-    }
+    Outcome { shown, end }
 }

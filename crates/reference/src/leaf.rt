@@ -12,47 +12,11 @@ use crate::array::Array;
 use crate::create::{constant, count};
 use crate::decode::decode;
 use crate::fault::{Fault, Stop};
-use crate::made::{Made, count_places, finish};
-use crate::names::Cell;
+use crate::made::Made;
+use crate::names::find_array;
+use crate::task::Task;
 use encoding::inputs::find_input;
 use std::alloc::Global;
-
-fn take_copy(heap: Global, array: &Array, left: u64) -> Result<Made, Stop>
-    requires small { left ≤ 2 ^ 26 }
-    ensures { Right (making left 0 (array_of array.now)) result }
-{
-    let Some(total) = count_places(&array.shape, 0, left) else {
-        return Err(Stop::Fault(Fault::Places));
-    };
-    finish(array.copy(heap), total)
-}
-
-pub fn take_name(heap: Global, names: &Vec<Cell>, name: u32, left: u64) -> Result<Made, Stop>
-    requires small { left ≤ 2 ^ 26 }
-    ensures { Right (holding left (slice_index_or (cells_of names.now) name none)) result }
-{
-    let k = name as usize;
-    if k >= names.len() {
-        return Err(Stop::Fault(Fault::Nothing));
-    }
-    match &names[k] {
-        Cell::Empty => Err(Stop::Fault(Fault::Nothing)),
-        Cell::Holds(array) => take_copy(heap, array, left),
-    }
-}
-
-pub fn take_input(heap: Global, inputs: &[u8], input: u32, left: u64) -> Result<Made, Stop>
-    requires small { left ≤ 2 ^ 26 }
-    ensures { Right (holding left (given (inputs_of inputs.now) input)) result }
-{
-    let Some(head) = find_input(inputs, input as usize) else {
-        return Err(Stop::Fault(Fault::Nothing));
-    };
-    let Some(total) = count_places(&head.shape, 0, left) else {
-        return Err(Stop::Fault(Fault::Places));
-    };
-    finish(decode(heap, inputs, head), total)
-}
 
 pub fn take_constant(heap: Global, value: u64, left: u64) -> Result<Made, Stop>
     ensures { Right (making left 0 (constant_array value)) result }
@@ -60,16 +24,43 @@ pub fn take_constant(heap: Global, value: u64, left: u64) -> Result<Made, Stop>
     if left < 1 {
         return Err(Stop::Fault(Fault::Places));
     }
-    finish(constant(heap, value), 1)
+    let array = constant(heap, value)?;
+    Ok(Made { array, count: 1 })
 }
 
-pub fn take_count(heap: Global, len: u32, left: u64) -> Result<Made, Stop>
-    requires small { left ≤ 2 ^ 26 }
-    ensures { Right (making left 0 (count_array binary64 len)) result }
-{
-    let total = u64::from(len);
-    if left < total {
-        return Err(Stop::Fault(Fault::Places));
+impl Task<'_> {
+    fn take_copy(&self, array: &Array) -> Result<Made, Stop>
+        ensures { Right (making self.now.places 0 (array_of array.now)) result }
+    {
+        let count = self.take(0, &array.shape)?;
+        let array = array.copy(self.heap)?;
+        Ok(Made { array, count })
     }
-    finish(count(heap, len), total)
+
+    pub fn take_name(&self, names: &Vec<Option<Array>>, name: u32) -> Result<Made, Stop>
+        ensures { Right (holding self.now.places (slice_index_or (cells_of names.now) name none)) result }
+    {
+        let array = find_array(names, name).ok_or(Fault::Nothing)?;
+        self.take_copy(array)
+    }
+
+    pub fn take_input(&self, input: u32) -> Result<Made, Stop>
+        ensures { Right (holding self.now.places (given (inputs_of self.now.inputs.now) input)) result }
+    {
+        let head = find_input(self.inputs, input as usize).ok_or(Fault::Nothing)?;
+        let count = self.take(0, &head.shape)?;
+        let array = decode(self.heap, self.inputs, head)?;
+        Ok(Made { array, count })
+    }
+
+    pub fn take_count(&self, len: u32) -> Result<Made, Stop>
+        ensures { Right (making self.now.places 0 (count_array binary64 len)) result }
+    {
+        let many = u64::from(len);
+        if self.places < many {
+            return Err(Stop::Fault(Fault::Places));
+        }
+        let array = count(self.heap, len)?;
+        Ok(Made { array, count: many })
+    }
 }

@@ -13,8 +13,8 @@ fn encode_head(heap: Global, shape: Shape) -> Result<Vec<u8>, AllocError>
 {
     let mut out = Vec::new(heap);
     out.push(shape.rank as u8)?;
-    for k in 0..shape.rank {
-        out.extend_from_slice(&shape.lens[k].to_le_bytes())?;
+    for len in shape.lengths() {
+        out.extend_from_slice(&len.to_le_bytes())?;
     }
     Ok(out)
 }
@@ -24,8 +24,8 @@ pub fn encode(heap: Global, array: &Array) -> Result<Vec<u8>, AllocError>
     ensures { IfOk result (λ v. v.items ≡ array_bytes (shape_of array.now.shape) array.now.numbers.items) }
 {
     let mut out = encode_head(heap, array.shape)?;
-    for n in 0..array.numbers.len() {
-        out.extend_from_slice(&array.numbers[n].to_le_bytes())?;
+    for number in &array.numbers {
+        out.extend_from_slice(&number.to_le_bytes())?;
     }
     Ok(out)
 }

@@ -6,15 +6,16 @@ ghost use Rattle.semantics.specs.Arrays.{Alike, can_put, put_array};
 ghost use Rattle.encoding.specs.ShapeOf.{shape_of};
 ghost use Rattle.reference.specs.ArrayOf.{array_of, narrow_at};
 ghost use Rattle.reference.specs.IndicesOf.{indices_of};
-ghost use Rattle.reference.specs.PartsOf.{parts_of};
+ghost use Rattle.semantics.specs.Slices.{parts_of};
 
 use crate::array::Array;
-use crate::broadcast::{broadcast, get_narrow};
+use crate::broadcast::get_narrow;
 use crate::place::Place;
-use crate::shapes::same_lengths;
-use crate::slice::Slice;
-use crate::slices::{in_slices, slice_shape, unsliced_place};
+use crate::slices::{in_slices, unsliced_place};
 use crate::tabulate::{Source, tabulate};
+use encoding::broadcast::broadcast;
+use encoding::slices::slice_shape;
+use semantics::slice::Slice;
 use std::alloc::{AllocError, Global};
 
 // Whether an array is broadcast to the shape that slices show.
@@ -23,10 +24,7 @@ pub fn replaceable(slices: &[Slice], values: &Array) -> bool
     ensures { result ≡ can_put (parts_of slices.now) (array_of values.now) }
 {
     let shape = slice_shape(slices);
-    let Some(wide) = broadcast(&shape, &values.shape) else {
-        return false;
-    };
-    same_lengths(&wide, &shape)
+    broadcast(&shape, &values.shape) == Some(shape)
 }
 
 #[derive(Drop)]

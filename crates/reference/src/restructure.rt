@@ -7,15 +7,17 @@ ghost use Rattle.semantics.specs.Arrays.{Alike, shape_array, part_array, turn_ar
 ghost use Rattle.encoding.specs.ShapeOf.{shape_of};
 ghost use Rattle.reference.specs.ArrayOf.{array_of};
 ghost use Rattle.reference.specs.IndicesOf.{indices_of};
-ghost use Rattle.reference.specs.PartsOf.{parts_of};
+ghost use Rattle.semantics.specs.Slices.{parts_of};
 
 use crate::array::Array;
-use crate::orders::{transposed_shape, untransposed_place};
+use crate::orders::untransposed_place;
 use crate::place::Place;
-use crate::slice::Slice;
-use crate::slices::{slice_shape, sliced_place};
+use crate::slices::sliced_place;
 use crate::tabulate::{Source, tabulate};
+use encoding::orders::transposed;
 use encoding::shape::Shape;
+use encoding::slices::slice_shape;
+use semantics::slice::Slice;
 use std::alloc::{AllocError, Global};
 
 // How many places lengths have, however many they are; where they are 2^64 or more, 2^64 - 1.
@@ -23,8 +25,8 @@ fn count_places(lens: &[u32]) -> u64
     ensures { result ≡ min (size lens.now) (2 ^ 64 - 1) }
 {
     let mut places: u64 = 1;
-    for k in 0..lens.len() {
-        places = places.saturating_mul(u64::from(lens[k]));
+    for len in lens {
+        places = places.saturating_mul(u64::from(*len));
     }
     places
 }
@@ -94,6 +96,6 @@ pub fn turn<'a>(heap: Global, order: &'a [u32], array: &'a Array) -> Result<Arra
     requires small { size (turned order.now (shape_of array.now.shape)) ≤ 2 ^ 26 }
     ensures { IfOk result (λ a. Alike (array_of a) (turn_array order.now (array_of array.now))) }
 {
-    let shape = transposed_shape(order, &array.shape);
+    let shape = transposed(order, &array.shape);
     tabulate(heap, shape, &Transposed { order, array })
 }

@@ -1,11 +1,10 @@
 // A program's run as a command: what is read and printed no contract can say.
-use crate::fault::fault_number;
-use crate::interpret::{End, Outcome};
+use crate::fault::Stop;
+use crate::interpret::Outcome;
 use crate::refused::Refused;
 use crate::texts::run_text;
 use anyhow::anyhow;
 use encoding::inputs::whole_end;
-use reader::refusal::{refusal_number, refusal_place};
 use writer::console::{
     explain_refused, print_ended, print_refused, print_shown, read_file, read_files, read_options,
 };
@@ -13,8 +12,8 @@ use writer::console::{
 fn refuse(rt: &HostRuntime, text: &[u8], refused: Refused) -> anyhow::Result<()> {
     match refused {
         Refused::Text(refusal) => {
-            let place = refusal_place(refusal);
-            print_refused(rt, refusal_number(refusal), place)?;
+            let place = refusal.place();
+            print_refused(rt, refusal.number(), place)?;
             explain_refused(rt, text, place)?;
             Err(anyhow!("the text is no program that can be run"))
         }
@@ -42,12 +41,12 @@ fn show(rt: &HostRuntime, outcome: &Outcome, room: usize) -> anyhow::Result<()> 
     }
     print_shown(rt, shown)?;
     match outcome.end {
-        End::Done => Ok(()),
-        End::Fault(fault) => {
-            print_ended(rt, fault_number(fault))?;
+        Ok(()) => Ok(()),
+        Err(Stop::Fault(fault)) => {
+            print_ended(rt, u32::from(fault))?;
             Err(anyhow!("the run ended early"))
         }
-        End::Memory => Err(anyhow!("there is no memory left")),
+        Err(Stop::Memory) => Err(anyhow!("there is no memory left")),
     }
 }
 

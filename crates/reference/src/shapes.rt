@@ -1,6 +1,6 @@
 // Lengths of shapes, and shapes made of others.
 ghost use Rattle.std.specs.Prelude.{◌≡◌, ◌+◌, ◌<◌, length, slice_index, slice_set};
-ghost use Rattle.semantics.specs.Shapes.{same, without};
+ghost use Rattle.semantics.specs.Shapes.{without};
 ghost use Rattle.encoding.specs.ShapeOf.{shape_of};
 
 use encoding::shape::Shape;
@@ -20,43 +20,15 @@ pub fn axis_length(shape: &Shape, axis: usize) -> u32
     shape.lens[axis]
 }
 
-// Length `k` of the shape without one axis.
-fn length_without(shape: &Shape, axis: usize, k: usize) -> u32
-    requires below { k + 1 < length (shape_of shape.now) }
-    ensures { result ≡ slice_index (without axis (shape_of shape.now)) k }
-{
-    if k < axis {
-        shape.lens[k]
-    } else {
-        shape.lens[k + 1]
-    }
-}
-
 // The shape without one axis.
 pub fn remove_axis(shape: &Shape, axis: usize) -> Shape
     requires there { axis < length (shape_of shape.now) }
     ensures { shape_of result ≡ without axis (shape_of shape.now) }
 {
     let rank = shape.rank - 1;
-    let mut lens = [0; 8];
-    for k in 0..rank {
-        lens[k] = length_without(shape, axis, k);
-    }
+    let mut lens = shape.lens;
+    lens[axis..rank].copy_from_slice(&shape.lens[axis + 1..shape.rank]);
     Shape { rank, lens }
-}
-
-pub fn same_lengths(left: &Shape, right: &Shape) -> bool
-    ensures { result ≡ same (shape_of left.now) (shape_of right.now) }
-{
-    if left.rank != right.rank {
-        return false;
-    }
-    for k in 0..left.rank {
-        if left.lens[k] != right.lens[k] {
-            return false;
-        }
-    }
-    true
 }
 
 // The shape with another length along one axis.

@@ -1,68 +1,15 @@
-// Slices along each axis: whether they fit a shape, and which places they show.
-ghost use Rattle.std.specs.Prelude.{◌≡◌, ◌/◌, ◌%◌, ◌<◌, ◌≤◌, true, ◌&&◌, ◌||◌, length, ◌==◌, nat_le, nat_lt};
+// Slices along each axis: which places of a shape they show.
+ghost use Rattle.std.specs.Prelude.{◌≡◌, ◌/◌, ◌%◌, ◌<◌, ◌≤◌, true, ◌&&◌, length, ◌==◌, nat_le, nat_lt};
 ghost use Rattle.semantics.specs.Shapes.{pick, In};
 ghost use Rattle.semantics.specs.Parts.{place_of, part_fits, parts_fit, part_shape, places_of, apart, in_part, in_parts, which_one};
 ghost use Rattle.encoding.specs.ShapeOf.{shape_of};
 ghost use Rattle.reference.specs.IndicesOf.{indices_of};
-ghost use Rattle.reference.specs.PartsOf.{part_of, parts_of, last_inside, Stepping};
+ghost use Rattle.semantics.specs.Slices.{part_of, parts_of};
+ghost use Rattle.reference.specs.PartsOf.{Stepping};
 
 use crate::place::Place;
-use crate::slice::Slice;
 use encoding::shape::Shape;
-
-// Whether the last place of a slice is a place of an axis.
-fn last_fits(slice: Slice, len: u32) -> bool
-    ensures { result ≡ last_inside (part_of slice) len }
-{
-    let from = u64::from(slice.from);
-    let reach = u64::from(slice.step) * u64::from(slice.many.saturating_sub(1));
-    if slice.backward {
-        reach <= from
-    } else {
-        from + reach < u64::from(len)
-    }
-}
-
-// Whether a slice has no places, or the first and the last are places of an axis.
-fn ends_fit(slice: Slice, len: u32) -> bool
-    ensures { result ≡ (slice.many == 0 || (nat_lt slice.from len && last_inside (part_of slice) len)) }
-{
-    slice.many == 0 || slice.from < len && last_fits(slice, len)
-}
-
-fn slice_fits(slice: Slice, len: u32) -> bool
-    ensures { result ≡ part_fits (part_of slice) len }
-{
-    slice.step >= 1 && ends_fit(slice, len)
-}
-
-// Whether there is a slice for each axis, and each fits.
-pub fn slices_fit(slices: &[Slice], shape: &Shape) -> bool
-    ensures { result ≡ parts_fit (parts_of slices.now) (shape_of shape.now) }
-{
-    if slices.len() != shape.rank {
-        return false;
-    }
-    for k in 0..shape.rank {
-        if !slice_fits(slices[k], shape.lens[k]) {
-            return false;
-        }
-    }
-    true
-}
-
-// The shape that slices show.
-pub fn slice_shape(slices: &[Slice]) -> Shape
-    requires few { length slices.now ≤ 8 }
-    ensures { shape_of result ≡ part_shape (parts_of slices.now) }
-{
-    let rank = slices.len();
-    let mut lens = [0; 8];
-    for k in 0..rank {
-        lens[k] = slices[k].many;
-    }
-    Shape { rank, lens }
-}
+use semantics::slice::Slice;
 
 // The index that a slice shows at `index`.
 fn slice_index(slice: Slice, index: u32) -> u64
@@ -96,12 +43,14 @@ pub fn sliced_place(slices: &[Slice], shape: &Shape, place: &Place) -> Place
     requires inside { In (part_shape (parts_of slices.now)) (indices_of place.now) }
     ensures { indices_of result ≡ places_of (parts_of slices.now) (indices_of place.now) }
 {
-    let rank = shape.rank;
     let mut indices = [0; 8];
-    for k in 0..rank {
-        indices[k] = sliced_index(slices[k], shape.lens[k], place.indices[k]);
+    for (k, slice) in slices.iter().enumerate() {
+        indices[k] = sliced_index(*slice, shape.lens[k], place.indices[k]);
     }
-    Place { rank, indices }
+    Place {
+        rank: shape.rank,
+        indices,
+    }
 }
 
 // How far an index is from the first of a slice, in its direction.
@@ -147,8 +96,8 @@ pub fn in_slices(slices: &[Slice], place: &Place) -> bool
     requires axes { length slices.now ≤ length (indices_of place.now) }
     ensures { result ≡ in_parts (parts_of slices.now) (indices_of place.now) }
 {
-    for k in 0..slices.len() {
-        if !in_slice(slices[k], place.indices[k]) {
+    for (k, slice) in slices.iter().enumerate() {
+        if !in_slice(*slice, place.indices[k]) {
             return false;
         }
     }
@@ -161,10 +110,12 @@ pub fn unsliced_place(slices: &[Slice], place: &Place) -> Place
     requires axes { length slices.now ≤ length (indices_of place.now) }
     ensures { indices_of result ≡ which_one (parts_of slices.now) (indices_of place.now) }
 {
-    let rank = slices.len();
     let mut indices = [0; 8];
-    for k in 0..rank {
-        indices[k] = distance(slices[k], place.indices[k]) / slices[k].step;
+    for (k, slice) in slices.iter().enumerate() {
+        indices[k] = distance(*slice, place.indices[k]) / slice.step;
     }
-    Place { rank, indices }
+    Place {
+        rank: slices.len(),
+        indices,
+    }
 }

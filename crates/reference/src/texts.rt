@@ -12,13 +12,8 @@ pub fn run_text(heap: Global, text: &[u8], inputs: &[u8], places: u64) -> Result
 {
     // 16 words for each of the 2,048 steps that a program has at most
     let mut words = [0; 32_768];
-    let steps = match read_program(text, &mut words) {
-        Ok(steps) => steps,
-        Err(refusal) => return Err(Refused::Text(refusal)),
-    };
-    if let Err(bad) = count_inputs(inputs) {
-        return Err(Refused::Input(bad.input));
-    }
+    let steps = read_program(text, &mut words)?;
+    count_inputs(inputs)?;
     if places == 0 || places > 1 << 26 {
         return Err(Refused::Places);
     }

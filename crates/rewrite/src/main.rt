@@ -2,7 +2,6 @@
 #![tactic(auto)]
 
 use anyhow::anyhow;
-use reader::refusal::{refusal_number, refusal_place};
 use std::io::Write;
 use writer::console::{explain_refused, print_refused, read_file, read_options};
 use writer::rewrite_text;
@@ -23,8 +22,8 @@ fn run(rt: &HostRuntime) -> anyhow::Result<()> {
         }
         Ok(None) => Err(anyhow!("there is no room for the text")),
         Err(refusal) => {
-            let place = refusal_place(refusal);
-            print_refused(rt, refusal_number(refusal), place)?;
+            let place = refusal.place();
+            print_refused(rt, refusal.number(), place)?;
             explain_refused(rt, text.as_slice(), place)?;
             Err(anyhow!("the text is no program that can be run"))
         }

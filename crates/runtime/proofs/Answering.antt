@@ -1,5 +1,5 @@
 -- A text that is taken, and what follows for its steps.
-use Rattle.std.proofs.Common.{◌≡◌, ℕ, ◌-◌, ◌*◌, ◌<◌, ◌≤◌, Bool, true, false, cond, List, [], ◌∷◌, length, get_or, take, drop, sym, refl, ap, ◌∙◌, subst, arith, get_or-take}
+use Rattle.std.proofs.Common.{◌≡◌, ℕ, ◌-◌, ◌*◌, ◌<◌, ◌≤◌, Bool, true, false, cond, List, [], ◌∷◌, length, get_or, take, drop, Ok, Err, sym, refl, ap, ◌∙◌, subst, arith, get_or-take}
 use lib.Ieee.{nan_bits, binary64}
 use lib.Ieee.Bits.{nan_bits_above}
 use Rattle.std.proofs.lemmas.List.{length-take-le}
@@ -19,14 +19,14 @@ use Rattle.grammar.specs.Texts.{Reads, Verdict, taken, no_program, too_much, Jud
 use Rattle.grammar.specs.Automaton.{took, refused_7, refused_8, answer_to, answer_of}
 use Rattle.grammar.proofs.TextLaws.{answers_verdict}
 use Rattle.grammar.proofs.Canonicals.{lines_canonical}
-use Rattle.reader.specs.declared.judging.Verdict.TheVariants.{Taken as Took-steps}
 use Rattle.reader.specs.Judging.{mark_places, ReadsText}
 use Rattle.reader.specs.Reading.{Written}
 use Rattle.runtime.specs.declared.run.Ran.{Ran}
 use Rattle.runtime.specs.Built.{AllBuilt, UnbuiltAt}
 use Rattle.runtime.specs.States.{AllPlain, plain_none, plain_more, Runnable}
 use Rattle.runtime.specs.Running.{ProgramStands, RunsAs}
-use Rattle.runtime.specs.Answering.{Taken, NotBuilt, Enough, RunsText}
+use Rattle.reader.specs.declared.judging.Flaw.{Flaw}
+use Rattle.runtime.specs.Answering.{for_flaw, Taken, NotBuilt, Enough, RunsText, Refuses, for_text, for_size}
 
 -- ---- constants are patterns
 canonical_plain : (x : ℕ) → Canonical x → Pattern x
@@ -114,6 +114,11 @@ judged_8 t i e = let a = answers_verdict t in go a.verdict a.judged (sym a.is �
     go (no_program k) j h = absurd (let z : ◌≡◌ {A = ℕ} 0 1 = cc in omega arith)
     go (too_much k) j h = let same : k ≡ i = cc in subst (λ n. Judged t (too_much n)) same j
 
+-- a text with a flaw is refused for it
+pub refuses_flaw : (t bs : List ℕ) (p steps work : ℕ) (read : List Step) (places : List ℕ) (f : Flaw) → ReadsText t read places (Err f) → Refuses t bs p steps work (for_flaw f)
+refuses_flaw t bs p steps work read places (Flaw.NoProgram i) h = for_text (judged_7 t i h)
+refuses_flaw t bs p steps work read places (Flaw.TooMuch i) h = for_size (judged_8 t i h)
+
 judged_reads : {t : List ℕ} {p : Program ℕ} → Judged t (taken p) → Reads t p
 judged_reads (is_taken r h) = r
 
@@ -121,24 +126,21 @@ pub took_plain : {t : List ℕ} {es : List Step} (k : Took t es) → AllPlain es
 took_plain {t} k = subst AllPlain (sym k.is) (reads_plain t k.program (judged_reads k.judged))
 
 -- ---- what reading a text gave
-module _ (t : List ℕ) (steps : List Step) (places : List ℕ) (n : ℕ) (read : ReadsText t steps places (Took-steps n)) where
-  whole : n - 0 ≡ n
-  whole = omega arith
-
+module _ (t : List ℕ) (steps : List Step) (places : List ℕ) (n : ℕ) (read : ReadsText t steps places (Ok n)) where
   pub text_took : Took t (take n steps)
   text_took = took_as t (take n steps) read.0
 
-  pub text_taken : AllBuilt (take (n - 0) steps) → Taken t
+  pub text_taken : AllBuilt (take n steps) → Taken t
   text_taken b =
       let k = text_took in
-      record { program = k.program; judged = k.judged; built = subst AllBuilt (ap (λ i. take i steps) whole ∙ k.is) b }
+      record { program = k.program; judged = k.judged; built = subst AllBuilt k.is b }
 
   -- the first step that is not built, and its place
-  pub text_unbuilt : (k : ℕ) → n ≤ length steps → UnbuiltAt (take (n - 0) steps) k → NotBuilt t (get_or places k 0)
+  pub text_unbuilt : (k : ℕ) → n ≤ length steps → UnbuiltAt (take n steps) k → NotBuilt t (get_or places k 0)
   text_unbuilt k long u =
       let w = text_took in
-      let is : take (n - 0) steps ≡ spell_program w.program [] = ap (λ i. take i steps) whole ∙ w.is in
-      let low : k < n = omega (arith, u.there, length-take-le (n - 0) steps (omega arith)) in
+      let is : take n steps ≡ spell_program w.program [] = w.is in
+      let low : k < n = omega (arith, u.there, length-take-le n steps (omega arith)) in
       record {
         program = w.program;
         judged = w.judged;
@@ -148,17 +150,17 @@ module _ (t : List ℕ) (steps : List Step) (places : List ℕ) (n : ℕ) (read 
       }
 
   -- the steps, written to lent words
-  module _ (long : n ≤ length steps) (built : AllBuilt (take (n - 0) steps)) (old new : List ℕ) (w : Written old new n (take n steps) (take n places)) where
-    steps_are : steps_in (take (5 * n - 0) new) ≡ take n steps
-    steps_are = let all : 5 * n - 0 ≡ 5 * n = omega arith in ap (λ i. steps_in (take i new)) all ∙ w.are
+  module _ (long : n ≤ length steps) (built : AllBuilt (take n steps)) (old new : List ℕ) (w : Written old new n (take n steps) (take n places)) where
+    steps_are : steps_in (take (5 * n) new) ≡ take n steps
+    steps_are = w.are
 
-    pub text_stands : ProgramStands (take (5 * n - 0) new)
+    pub text_stands : ProgramStands (take (5 * n) new)
     text_stands = record { program = text_took.program; enc = steps_are ∙ text_took.is }
 
-    pub text_runnable : Runnable (take (5 * n - 0) new)
+    pub text_runnable : Runnable (take (5 * n) new)
     text_runnable =
         record {
-          built = subst AllBuilt (ap (λ i. take i steps) whole ∙ sym steps_are) built;
+          built = subst AllBuilt (sym steps_are) built;
           plain = subst AllPlain (sym steps_are) (took_plain text_took);
           few = omega (arith, ap length steps_are, length-take-le n steps long, read.2);
         }
@@ -166,7 +168,7 @@ module _ (t : List ℕ) (steps : List Step) (places : List ℕ) (n : ℕ) (read 
     length_program : length (spell_program text_took.program []) ≡ n
     length_program = sym (ap length text_took.is) ∙ length-take-le n steps long
 
-    pub text_runs : (bs : List ℕ) (p : ℕ) (old-work new-work old-room new-room : List ℕ) (r : Ran) → stop bs ≡ length bs → 16 * n ≤ length old → Enough p (length old-work) → RunsAs (take (5 * n - 0) new) bs p old-room new-room r → drop p new-work ≡ drop p old-work → RunsText t bs p old new old-work new-work old-room new-room r
+    pub text_runs : (bs : List ℕ) (p : ℕ) (old-work new-work old-room new-room : List ℕ) (r : Ran) → stop bs ≡ length bs → 16 * n ≤ length old → Enough p (length old-work) → RunsAs (take (5 * n) new) bs p old-room new-room r → drop p new-work ≡ drop p old-work → RunsText t bs p old new old-work new-work old-room new-room r
     unfolding text_taken
     text_runs bs p old-work new-work old-room new-room r whole-inputs enough_steps enough run work =
         let k = text_took in
@@ -182,6 +184,6 @@ module _ (t : List ℕ) (steps : List Step) (places : List ℕ) (n : ℕ) (read 
         }
 
 -- a text that is taken has as many steps as were read
-pub length_taken : (t : List ℕ) (steps : List Step) (places : List ℕ) (n : ℕ) (read : ReadsText t steps places (Took-steps n)) → n ≤ length steps → (built : AllBuilt (take (n - 0) steps)) → length (spell_program (text_taken t steps places n read built).program []) ≡ n
+pub length_taken : (t : List ℕ) (steps : List Step) (places : List ℕ) (n : ℕ) (read : ReadsText t steps places (Ok n)) → n ≤ length steps → (built : AllBuilt (take n steps)) → length (spell_program (text_taken t steps places n read built).program []) ≡ n
 unfolding text_taken
 length_taken t steps places n read long built = sym (ap length (text_took t steps places n read).is) ∙ length-take-le n steps long

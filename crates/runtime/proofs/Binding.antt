@@ -1,5 +1,5 @@
 -- A name that gets a new buffer, or a view that is there already.
-use Rattle.std.proofs.Common.{◌≡◌, ℕ, ◌+◌, ◌<◌, ◌≤◌, Bool, true, false, leb, List, length, get_or, take, sym, ap, ◌∙◌, subst, inl, inr, ⊎_elim, arith}
+use Rattle.std.proofs.Common.{◌≡◌, ℕ, ◌+◌, ◌<◌, ◌≤◌, Bool, true, false, leb, List, length, get_or, take, sym, ap, ◌∙◌, subst, inl, inr, ⊎_elim, arith, Option, Some, None}
 use Rattle.std.proofs.lemmas.List.{length-take-le, take-take}
 use Rattle.semantics.specs.Shapes.{pick, size, flat, unflat}
 use Rattle.semantics.specs.Arrays.{Array}
@@ -19,8 +19,6 @@ use Rattle.program.proofs.Nodes.{expr_view}
 use Rattle.views.specs.declared.view.Source.TheVariants.{Area, Input as From}
 use Rattle.views.specs.declared.view.View.{View}
 use Rattle.views.specs.Views.{Holds, Whole, Laid}
-use Rattle.kernels.specs.declared.slot.Slot.{Slot}
-use Rattle.kernels.specs.declared.slot.Slot.TheVariants.{Empty, Held}
 use Rattle.kernels.specs.Trees.{tree}
 use Rattle.kernels.specs.Filling.{Tabled, Ready, Stored}
 use Rattle.memory.specs.declared.memory.Memory.{Memory}
@@ -49,13 +47,13 @@ module _ (area old : List ℕ) (before m : Memory) (carries : Carries old area b
 
 module _ (old mid new : List ℕ) (before m after : Memory) (carries : Carries old mid before m) (to : ℕ) (is : to ≡ m.top) (w : List ℕ) (view : View) (whole : Whole Area to w view)
     (room : to + m.loose + size w ≤ length new) (k : ℕ) (there : k < 64) (bound : Bound m after k view) where
-  low : low_of (Held view) ≡ to
+  low : low_of (Some view) ≡ to
   low = area_low view whole.source ∙ whole.low
 
-  high : high_of (Held view) ≡ to + size w
+  high : high_of (Some view) ≡ to + size w
   high = area_high view whole.source ∙ whole.high
 
-  fills : Fills (Held view)
+  fills : Fills (Some view)
   unfolding Fills slot_size
   fills = omega (arith, low, high, ap size whole.shaped)
 
@@ -66,7 +64,7 @@ module _ (old mid new : List ℕ) (before m after : Memory) (carries : Carries o
         neat = bound_neat carries.neat whole.good (omega (arith, low, high)) (apart_above view carries.neat whole.source (whole.low ∙ is)) there carries.counted bound;
         counted = bound.counted;
         fills = bound_fills (carries.fills all) fills bound;
-        room = omega (arith, bound.top, bound.loose, high, fills_loose (Held view) fills);
+        room = omega (arith, bound.top, bound.loose, high, fills_loose (Some view) fills);
         within = omega (arith, bound.held, carries.held, few, ap size whole.shaped);
       }
 
@@ -105,8 +103,8 @@ held_is n b {a} {c} e = go (leb (0 + size b.shape) n) e
     go true h = cc
     go false h = absurd (no_fault h)
 
-module _ (ws : List ℕ) (i : ℕ) (x : Step) (at : At ws i x) (table : List Slot) (bs : List ℕ) (v : View) where
-  pub name_view_of : {k : ℕ} → x ≡ Name k → get_or table k Empty ≡ Held v → GoodSlot (get_or table k Empty) → ViewOf ws i table bs v
+module _ (ws : List ℕ) (i : ℕ) (x : Step) (at : At ws i x) (table : List (Option View)) (bs : List ℕ) (v : View) where
+  pub name_view_of : {k : ℕ} → x ≡ Name k → get_or table k None ≡ Some v → GoodSlot (get_or table k None) → ViewOf ws i table bs v
   unfolding value
   name_view_of {k} is slot good =
       record {
@@ -137,28 +135,28 @@ module _ (ws : List ℕ) (i : ℕ) (x : Step) (at : At ws i x) (table : List Slo
           subst (λ b. Holds area bs v b) (held_is n b (sym (ap (held n) (input_there bs k found.there)) ∙ e)) (holds area bs (get_or (offsets bs) k 0) found.heads)
 
 -- a view that is there already is bound
-module _ (area : List ℕ) (m after : Memory) (keeps : Keeps m area) (ws : List ℕ) (i : ℕ) (bs : List ℕ) (v : View) (is : ViewOf ws i m.names bs v) (k : ℕ) (there : k < 64) (bound : Bound m after k v) (few : m.held + slot_size (Held v) ≤ length area) where
-  shared : ((j : ℕ) × (get_or m.names j Empty ≡ Held v)) → Keeps after area
+module _ (area : List ℕ) (m after : Memory) (keeps : Keeps m area) (ws : List ℕ) (i : ℕ) (bs : List ℕ) (v : View) (is : ViewOf ws i m.names bs v) (k : ℕ) (there : k < 64) (bound : Bound m after k v) (few : m.held + slot_size (Some v) ≤ length area) where
+  shared : ((j : ℕ) × (get_or m.names j None ≡ Some v)) → Keeps after area
   shared (j, e) =
-      let fills : Fills (Held v) = subst Fills e (keeps.fills.each j) in
+      let fills : Fills (Some v) = subst Fills e (keeps.fills.each j) in
       let below = subst (λ s. high_of s ≤ m.top) e (keeps.neat.below j) in
       record {
         neat = bound_neat keeps.neat is.good (subst (λ s. low_of s ≤ high_of s) e (keeps.neat.up j)) (apart_shared j keeps.neat e) there keeps.counted bound;
         counted = bound.counted;
         fills = bound_fills keeps.fills fills bound;
-        room = omega (arith, bound.top, bound.loose, fills_loose (Held v) fills, keeps.room);
+        room = omega (arith, bound.top, bound.loose, fills_loose (Some v) fills, keeps.room);
         within = omega (arith, bound.held);
       }
 
-  outside : (low_of (Held v) ≡ 0) × (high_of (Held v) ≡ 0) → Keeps after area
+  outside : (low_of (Some v) ≡ 0) × (high_of (Some v) ≡ 0) → Keeps after area
   unfolding Fills
   outside (low, high) =
-      let fills : Fills (Held v) = omega arith in
+      let fills : Fills (Some v) = omega arith in
       record {
         neat = bound_neat keeps.neat is.good (omega arith) (λ j. inr (inl (omega arith))) there keeps.counted bound;
         counted = bound.counted;
         fills = bound_fills keeps.fills fills bound;
-        room = omega (arith, bound.top, bound.loose, fills_loose (Held v) fills, keeps.room);
+        room = omega (arith, bound.top, bound.loose, fills_loose (Some v) fills, keeps.room);
         within = omega (arith, bound.held);
       }
 

@@ -102,7 +102,7 @@ built_opens Part b o n i c m e t = no_true b
 built_opens (Join x) b o n i c m e t = no_true b
 built_opens Rows b o n i c m e t = no_true b
 built_opens (Item k) b o n i c m e t = o
-built_opens (Slice f d s y) b o n i c m e t = o
+built_opens (Slice s) b o n i c m e t = o
 
 -- the steps that lines begin with, of those that are built
 pub built_lines : (x : Step) → built x ≡ true → OpensLine x → ((k : ℕ) → x ≡ Let k → ⊥) → (x ≡ Show → ⊥) → ⊥
@@ -126,4 +126,4 @@ built_lines Part b o l s = o
 built_lines (Join x) b o l s = o
 built_lines Rows b o l s = o
 built_lines (Item k) b o l s = o
-built_lines (Slice f d t m) b o l s = o
+built_lines (Slice t) b o l s = o

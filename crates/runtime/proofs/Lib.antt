@@ -1,6 +1,7 @@
 pub mod Building
 pub mod Planning
 pub mod Trees
+pub mod Stops
 pub mod Stating
 pub mod Binding
 pub mod Fitting

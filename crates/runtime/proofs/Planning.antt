@@ -1,5 +1,5 @@
 -- Plans, operation by operation.
-use Rattle.std.proofs.Common.{◌≡◌, ℕ, zero, suc, ◌+◌, ◌-◌, ◌^◌, ◌<◌, ◌≤◌, min, Bool, true, false, List, [], ◌∷◌, map, length, get_or, IsErrAnd, IfOk, Ok, Err, Result, sym, refl, ap, ◌∙◌, subst, arith}
+use Rattle.std.proofs.Common.{◌≡◌, ℕ, zero, suc, ◌+◌, ◌-◌, ◌^◌, ◌<◌, ◌≤◌, min, Bool, true, false, List, [], ◌∷◌, map, length, get_or, IsErrAnd, IfOk, Ok, Err, Result, sym, refl, ap, ◌∙◌, subst, arith, Option, Some, None}
 use Rattle.std.proofs.lemmas.Result.{err_from_is_err_and, IfOk-weaker}
 use Rattle.std.proofs.lemmas.Bool.{le-leb, lt-leb}
 use Rattle.semantics.specs.declared.operation.Unary.{Unary}
@@ -20,8 +20,6 @@ use Rattle.program.specs.Spelling.{spell}
 use Rattle.program.specs.Words.{At}
 use Rattle.program.specs.Standing.{steps_from, Stands, Skips, View, is_name, is_input, is_constant, is_count, is_each, is_both}
 use Rattle.program.proofs.Nodes.{expr_view, expr_further}
-use Rattle.kernels.specs.declared.slot.Slot.{Slot}
-use Rattle.kernels.specs.declared.slot.Slot.TheVariants.{Empty, Held}
 use Rattle.kernels.specs.Filling.{Tabled, SlotHolds, empty, held as holding}
 use Rattle.kernels.proofs.Feeding.{slot_cell, input_there}
 use Rattle.views.specs.declared.view.View.{View as Look}
@@ -56,13 +54,13 @@ module _ (sh : Shape) (n c j s : ℕ) (is : s ≡ min (size (shape_of sh)) (2 ^ 
           rw (le-leb (c + size a.shape) n (omega (arith, ap size e))) (ap (val a) same)
 
 -- ---- names and inputs
-cell_empty : {area bs : List ℕ} {slot : Slot} {cell : Cell ℕ} → slot ≡ Empty → SlotHolds area bs slot cell → cell ≡ none
+cell_empty : {area bs : List ℕ} {slot : Option Look} {cell : Cell ℕ} → slot ≡ None → SlotHolds area bs slot cell → cell ≡ none
 cell_empty e empty = refl
 cell_empty e (holding h) = absurd (let z : ◌≡◌ {A = ℕ} 0 1 = cc in omega arith)
 
-pub slot_empty : (s : Slot) → ((v : Look) → s ≡ Held v → ⊥) → s ≡ Empty
-slot_empty Empty h = refl
-slot_empty (Held v) h = absurd (h v refl)
+pub slot_empty : (s : Option Look) → ((v : Look) → s ≡ Some v → ⊥) → s ≡ None
+slot_empty None h = refl
+slot_empty (Some v) h = absurd (h v refl)
 
 given_past : (f : ℕ → Array ℕ) (xs : List ℕ) (k : ℕ) → length xs ≤ k → given (map f xs) k ≡ none
 unfolding given
@@ -74,12 +72,12 @@ input_none : (bs : List ℕ) (k : ℕ) → length (offsets bs) ≤ k → given (
 unfolding inputs_of
 input_none bs k h = given_past (array_at bs) (offsets bs) k h
 
-pub name_nothing : (table : List Slot) (k n j : ℕ) (x : Stop) → get_or table k Empty ≡ Empty → x.fault ≡ Nothing → NamePlan table k n j (Err x)
+pub name_nothing : (table : List (Option Look)) (k n j : ℕ) (x : Stop) → get_or table k None ≡ None → x.fault ≡ Nothing → NamePlan table k n j (Err x)
 unfolding held
 name_nothing table k n j x e f =
     record { within = tt; next = tt; right = λ area bs ns t. stops (ap (held n) (cell_empty e (t.each k)) ∙ sym (ap (λ y. fault (fault_number y)) f)) }
 
-pub name_counts : (table : List Slot) (k n j : ℕ) (v : Look) (r : Result Planned Stop) → get_or table k Empty ≡ Held v → Counts (shape_of v.shape) n 0 j r → NamePlan table k n j r
+pub name_counts : (table : List (Option Look)) (k n j : ℕ) (v : Look) (r : Result Planned Stop) → get_or table k None ≡ Some v → Counts (shape_of v.shape) n 0 j r → NamePlan table k n j r
 unfolding held
 name_counts table k n j v r e h =
     record {
@@ -148,7 +146,7 @@ module _ (p : ℕ) (ins : List (Array ℕ)) (ns : List (Cell ℕ)) (n : ℕ) whe
       (c.right (both_array binary64 k x y) (ap (λ u. wide u y.shape) xs ∙ (ap (λ u. wide (shape_of a.shape) u) ys ∙ sym ws)))
 
 -- ---- what stands at a node, by the step that is read there
-module _ (ws bs : List ℕ) (table : List Slot) (i n : ℕ) (x : Step) (at : At ws i x) where
+module _ (ws bs : List ℕ) (table : List (Option Look)) (i n : ℕ) (x : Step) (at : At ws i x) where
   -- a leaf: its value does not hang on other steps
   leaf_at : (s : Step) → x ≡ s → {r : Result Planned Stop} (e : Expr ℕ) → ((t : List Step) (d : Expr ℕ) → View t (steps_from ws (i + 1)) d s → (d ≡ e) × (steps_from ws (i + 1) ≡ t)) →
       IfOk r (λ p. (p.count ≤ n) × (size (shape_of p.shape) ≤ p.count)) → IfOk r (λ p. p.next ≡ i + 1) → ((area : List ℕ) (ns : List (Cell ℕ)) (p : ℕ) → Tabled area bs table ns → Plans (value (sizes p) binary64 (inputs_of bs) ns n e) r) → PlannedAt ws bs table i n r
@@ -260,7 +258,7 @@ module _ (ws bs : List ℕ) (table : List Slot) (i n : ℕ) (x : Step) (at : At 
                 both_plans p (inputs_of bs) ns n k e f (h.right e (spell f t) q area ns p tb) (g.right f t (h.skips.on e (spell f t) q) area ns p tb) l same c
 
 -- the exit of a `?`
-pub plan_exit : (ws bs : List ℕ) (table : List Slot) (i n : ℕ) (r : Result Planned Stop) (x : Stop) → IsErrAnd r (λ y. y ≡ x) → PlannedAt ws bs table i n (Err x) → PlannedAt ws bs table i n r
+pub plan_exit : (ws bs : List ℕ) (table : List (Option Look)) (i n : ℕ) (r : Result Planned Stop) (x : Stop) → IsErrAnd r (λ y. y ≡ x) → PlannedAt ws bs table i n (Err x) → PlannedAt ws bs table i n r
 plan_exit ws bs table i n r x b h =
     let q = err_from_is_err_and r b in
     subst (λ z. PlannedAt ws bs table i n z) (sym q.1) (subst (λ y. PlannedAt ws bs table i n (Err y)) (sym q.2) h)

@@ -1,5 +1,5 @@
 -- Lines one after the other.
-use Rattle.std.proofs.Common.{◌≡◌, ℕ, zero, suc, ◌+◌, ◌<◌, ◌≤◌, eqb, List, [], ◌∷◌, ◌++◌, length, get_or, Ok, Err, Result, sym, refl, ap, ◌∙◌, subst, zero-add, arith, length-append}
+use Rattle.std.proofs.Common.{◌≡◌, ℕ, zero, suc, ◌+◌, ◌<◌, ◌≤◌, eqb, List, [], ◌∷◌, ◌++◌, length, get_or, Ok, Err, Result, sym, refl, ap, ◌∙◌, subst, zero-add, arith, length-append, Option}
 use lib.Ieee.{Float}
 use Rattle.semantics.specs.Shapes.{pick}
 use Rattle.semantics.specs.Arrays.{Array}
@@ -19,14 +19,14 @@ use Rattle.program.specs.Spelling.{spell, spell_program}
 use Rattle.program.specs.Words.{steps_in, At}
 use Rattle.program.specs.Standing.{steps_from, Skips, nothing as no_steps, Runs, LinesView, is_let, is_show}
 use Rattle.program.proofs.Nodes.{lines_view, lines_none, from_start}
-use Rattle.kernels.specs.declared.slot.Slot.{Slot}
+use Rattle.views.specs.declared.view.View.{View}
 use Rattle.kernels.specs.Filling.{Tabled}
 use Rattle.memory.specs.declared.memory.Memory.{Memory}
 use Rattle.runtime.specs.declared.fault.Fault.{Fault}
 use Rattle.runtime.specs.declared.fault.Fault.TheVariants.{Shapes, Places, Nothing, Room}
 use Rattle.runtime.specs.declared.fault.Stop.{Stop}
-use Rattle.runtime.specs.declared.run.End.TheVariants.{Done, Stopped}
 use Rattle.runtime.specs.declared.statements.Shown.{Shown}
+use Rattle.runtime.specs.declared.run.Ran.{Ran}
 use Rattle.runtime.specs.Faults.{fault_number}
 use Rattle.runtime.specs.Planning.{sizes}
 use Rattle.runtime.specs.States.{Stood, Standing}
@@ -36,7 +36,7 @@ use Rattle.runtime.proofs.Fitting.{shown_none, shown_push, shows_whole, shows_cu
 use Rattle.runtime.proofs.Patterns.{Bytes, inputs_plain}
 
 -- a program is at node `at`: `rest` is still to run from `state`, and comes to u; what was shown stands in the room
-pub record Going (ws bs : List ℕ) (p at shown : ℕ) (area : List ℕ) (table : List Slot) (old room : List ℕ) (u : State ℕ) : Type 0 where
+pub record Going (ws bs : List ℕ) (p at shown : ℕ) (area : List ℕ) (table : List (Option View)) (old room : List ℕ) (u : State ℕ) : Type 0 where
   pub rest : Program ℕ
   pub state : State ℕ
   pub enc : steps_from ws at ≡ spell_program rest []
@@ -62,6 +62,11 @@ fault_some Places e = omega arith
 fault_some Nothing e = omega arith
 fault_some Room e = omega arith
 
+-- a run by its parts
+pub runs_same : {ws bs : List ℕ} {p : ℕ} {old new : List ℕ} (ran : Ran) (shown : ℕ) (how : Result (Unit {0}) Stop) → ran.shown ≡ shown → ran.end ≡ how → RunsAs ws bs p old new (record { shown = shown; end = how }) → RunsAs ws bs p old new ran
+runs_same {ws} {bs} {p} {old} {new} ran shown how e f h =
+    subst (λ n. RunsAs ws bs p old new (record { shown = n; end = ran.end })) (sym e) (subst (λ r. RunsAs ws bs p old new (record { shown = shown; end = r })) (sym f) h)
+
 -- ---- where a run begins
 get_d_nothing : (n k : ℕ) → get_or (nothing {Num = ℕ} n) k none ≡ none
 unfolding nothing
@@ -77,7 +82,7 @@ length_nothing (suc k) = ap suc (length_nothing k)
 no_array : {a : Array ℕ} → none ≡ some a → ⊥
 no_array e = let z : ◌≡◌ {A = ℕ} 0 1 = cc in omega arith
 
-stood_nothing : (area bs : List ℕ) (table : List Slot) → Bytes bs → Tabled area bs table (nothing 64) → Stood area bs table (nothing 64)
+stood_nothing : (area bs : List ℕ) (table : List (Option View)) → Bytes bs → Tabled area bs table (nothing 64) → Stood area bs table (nothing 64)
 stood_nothing area bs table b t =
     record { many = length_nothing 64; tabled = t; plain = record { inputs = inputs_plain bs b; names = λ k a e. absurd (no_array (sym (get_d_nothing 64 k) ∙ e)) } }
 
@@ -119,7 +124,7 @@ module _ (ws bs : List ℕ) (p at shown : ℕ) (area : List ℕ) (m : Memory) (o
   lines_standing = let g = inv.on st.program st.enc in record { names = g.state.names; stood = g.stood }
 
   -- no more lines
-  pub lines_over : length (steps_in ws) ≤ at → RunsAs ws bs p old room (record { shown = shown; end = Done })
+  pub lines_over : length (steps_in ws) ≤ at → RunsAs ws bs p old room (record { shown = shown; end = Ok tt })
   unfolding shows ends run
   lines_over l =
       record {
@@ -127,7 +132,7 @@ module _ (ws bs : List ℕ) (p at shown : ℕ) (area : List ℕ) (m : Memory) (o
             let g = inv.on q e in
             let done : g.rest ≡ end = (lines_none ws at g.rest [] l g.enc).0 in
             let is : g.state ≡ run (sizes p) binary64 (inputs_of bs) q (begin (sizes p)) = ap (λ r. run (sizes p) binary64 (inputs_of bs) r g.state) (sym done) ∙ g.same in
-            subst (λ u. ShowsAs u.shown u.ended old room (record { shown = shown; end = Done })) is
+            subst (λ u. ShowsAs u.shown u.ended old room (record { shown = shown; end = Ok tt })) is
             (shows_whole g.state.shown g.state.ended old room _ g.bytes g.count inv.behind (sym g.ended));
       }
 
@@ -172,7 +177,7 @@ module _ (ws bs : List ℕ) (p at shown : ℕ) (area : List ℕ) (m : Memory) (o
                 same = ap (λ n. run (sizes p) binary64 (inputs_of bs) b (becomes (sizes n) g.state k (value_in (sizes n) binary64 (inputs_of bs) g.state e))) inv.long ∙ h;
               }
 
-      pub let_stops : (y : Stop) → Right (Err y) → RunsAs ws bs p old room (record { shown = shown; end = Stopped y })
+      pub let_stops : (y : Stop) → Right (Err y) → RunsAs ws bs p old room (record { shown = shown; end = Err y })
       unfolding shows ends
       let_stops y right =
           record {
@@ -182,12 +187,12 @@ module _ (ws bs : List ℕ) (p at shown : ℕ) (area : List ℕ) (m : Memory) (o
           }
         where
           go : {u : State ℕ} (g : Going ws bs p at shown area m.names old room u) (e : Expr ℕ) (b : Program ℕ) → run (sizes p) binary64 (inputs_of bs) b (becomes (sizes p) g.state k (value_in (sizes p) binary64 (inputs_of bs) g.state e)) ≡ u →
-              LetGoes g.state (becomes (sizes (length area)) g.state k (value_in (sizes (length area)) binary64 (inputs_of bs) g.state e)) new-area bs after.names (Err y) → ShowsAs u.shown u.ended old room (record { shown = shown; end = Stopped y })
+              LetGoes g.state (becomes (sizes (length area)) g.state k (value_in (sizes (length area)) binary64 (inputs_of bs) g.state e)) new-area bs after.names (Err y) → ShowsAs u.shown u.ended old room (record { shown = shown; end = Err y })
           go {u} g e b h (let_not shown-is ended) =
               let v = becomes (sizes (length area)) g.state k (value_in (sizes (length area)) binary64 (inputs_of bs) g.state e) in
               let stays : run (sizes p) binary64 (inputs_of bs) b v ≡ v = ended_stays ℕ (sizes p) binary64 (inputs_of bs) b v (λ z. fault_some y.fault (sym ended ∙ z)) in
               let is : v ≡ u = sym stays ∙ (ap (λ n. run (sizes p) binary64 (inputs_of bs) b (becomes (sizes n) g.state k (value_in (sizes n) binary64 (inputs_of bs) g.state e))) inv.long ∙ h) in
-              subst (λ u. ShowsAs u.shown u.ended old room (record { shown = shown; end = Stopped y })) is
+              subst (λ u. ShowsAs u.shown u.ended old room (record { shown = shown; end = Err y })) is
               (shows_whole v.shown v.ended old room _ (g.bytes ∙ ap (λ l. written old 0 (shown_bytes l)) (sym shown-is)) (g.count ∙ ap (λ l. length (shown_bytes l)) (sym shown-is)) inv.behind (sym ended))
 
     -- a show
@@ -235,7 +240,7 @@ module _ (ws bs : List ℕ) (p at shown : ℕ) (area : List ℕ) (m : Memory) (o
                 same = ap (λ n. run (sizes p) binary64 (inputs_of bs) b (is_shown g.state (value_in (sizes n) binary64 (inputs_of bs) g.state e))) inv.long ∙ h;
               }
 
-      pub show_stops : (y : Stop) → ShowsRight (Err y) → RunsAs ws bs p old new (record { shown = shown; end = Stopped y })
+      pub show_stops : (y : Stop) → ShowsRight (Err y) → RunsAs ws bs p old new (record { shown = shown; end = Err y })
       unfolding shows ends bytes_of
       show_stops y right =
           record {
@@ -248,12 +253,12 @@ module _ (ws bs : List ℕ) (p at shown : ℕ) (area : List ℕ) (m : Memory) (o
           too_long d over = omega (arith, inv.wide)
 
           go : {u : State ℕ} (g : Going ws bs p at shown area m.names old room u) (e : Expr ℕ) (b : Program ℕ) → run (sizes p) binary64 (inputs_of bs) b (is_shown g.state (value_in (sizes p) binary64 (inputs_of bs) g.state e)) ≡ u →
-              ShowGoes g.state (is_shown g.state (value_in (sizes (length area)) binary64 (inputs_of bs) g.state e)) shown room new (Err y) → ShowsAs u.shown u.ended old new (record { shown = shown; end = Stopped y })
+              ShowGoes g.state (is_shown g.state (value_in (sizes (length area)) binary64 (inputs_of bs) g.state e)) shown room new (Err y) → ShowsAs u.shown u.ended old new (record { shown = shown; end = Err y })
           go {u} g e b h (show_not shown-is ended same) =
               let v = is_shown g.state (value_in (sizes (length area)) binary64 (inputs_of bs) g.state e) in
               let stays : run (sizes p) binary64 (inputs_of bs) b v ≡ v = ended_stays ℕ (sizes p) binary64 (inputs_of bs) b v (λ z. fault_some y.fault (sym ended ∙ z)) in
               let is : v ≡ u = sym stays ∙ (ap (λ n. run (sizes p) binary64 (inputs_of bs) b (is_shown g.state (value_in (sizes n) binary64 (inputs_of bs) g.state e))) inv.long ∙ h) in
-              subst (λ u. ShowsAs u.shown u.ended old new (record { shown = shown; end = Stopped y })) is
+              subst (λ u. ShowsAs u.shown u.ended old new (record { shown = shown; end = Err y })) is
               (shows_whole v.shown v.ended old new _ (same ∙ (g.bytes ∙ ap (λ l. written old 0 (shown_bytes l)) (sym shown-is))) (g.count ∙ ap (λ l. length (shown_bytes l)) (sym shown-is)) inv.behind (sym ended))
           go {u} g e b h (show_full d grown room-is over same) =
               let v = is_shown g.state (value_in (sizes (length area)) binary64 (inputs_of bs) g.state e) in

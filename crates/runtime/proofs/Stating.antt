@@ -15,8 +15,6 @@ use Rattle.encoding.specs.Writing.{array_bytes, Writes}
 use Rattle.program.specs.declared.step.Step.{Step}
 use Rattle.program.specs.Spelling.{spell}
 use Rattle.program.specs.Standing.{steps_from, Stands}
-use Rattle.kernels.specs.declared.slot.Slot.{Slot}
-use Rattle.kernels.specs.declared.slot.Slot.TheVariants.{Held}
 use Rattle.kernels.specs.Trees.{tree, Plain}
 use Rattle.kernels.specs.Filling.{Tabled, Ready}
 use Rattle.views.specs.declared.view.View.{View}
@@ -101,23 +99,23 @@ module _ (ws : List ℕ) (i : ℕ) (run : Runnable ws) (area bs : List ℕ) (m :
           go (plans a is sh) = show_no_room u at old new a p.count x (same_value ∙ is) r (written_as a is sh w)
 
 -- ---- lets
-let_stop : (p : ℕ) (u : State ℕ) (k : ℕ) {area bs : List ℕ} {table : List Slot} {v : Value ℕ} {x : Stop} → v ≡ fault (fault_number x.fault) → LetGoes u (becomes (sizes p) u k v) area bs table (Err x)
+let_stop : (p : ℕ) (u : State ℕ) (k : ℕ) {area bs : List ℕ} {table : List (Option View)} {v : Value ℕ} {x : Stop} → v ≡ fault (fault_number x.fault) → LetGoes u (becomes (sizes p) u k v) area bs table (Err x)
 unfolding becomes stopped
 let_stop p u k {area} {bs} {table} {x = x} e = subst (λ v. LetGoes u (becomes (sizes p) u k v) area bs table (Err x)) (sym e) (let_not refl refl)
 
-let_nowhere : (p : ℕ) (u : State ℕ) (k : ℕ) {area bs : List ℕ} {table : List Slot} {v : Value ℕ} {x : Stop} (a : Array ℕ) (c : ℕ) → v ≡ val a c → 64 ≤ k → fault_number x.fault ≡ 6 → LetGoes u (becomes (sizes p) u k v) area bs table (Err x)
+let_nowhere : (p : ℕ) (u : State ℕ) (k : ℕ) {area bs : List ℕ} {table : List (Option View)} {v : Value ℕ} {x : Stop} (a : Array ℕ) (c : ℕ) → v ≡ val a c → 64 ≤ k → fault_number x.fault ≡ 6 → LetGoes u (becomes (sizes p) u k v) area bs table (Err x)
 unfolding becomes stopped with_name
 let_nowhere p u k {area} {bs} {table} {x = x} a c e l six =
     subst (λ v. LetGoes u (becomes (sizes p) u k v) area bs table (Err x)) (sym e)
     (subst (λ b. LetGoes u (pick b (with_name u k a) (stopped u 6)) area bs table (Err x)) (sym (le-ltb k 64 l)) (let_not refl (sym six)))
 
-let_done : (p : ℕ) (u : State ℕ) (k : ℕ) {area bs : List ℕ} {table : List Slot} {v : Value ℕ} {j : ℕ} (a : Array ℕ) (c : ℕ) → v ≡ val a c → k < 64 → Stood area bs table (set u.names k (some a)) → LetGoes u (becomes (sizes p) u k v) area bs table (Ok j)
+let_done : (p : ℕ) (u : State ℕ) (k : ℕ) {area bs : List ℕ} {table : List (Option View)} {v : Value ℕ} {j : ℕ} (a : Array ℕ) (c : ℕ) → v ≡ val a c → k < 64 → Stood area bs table (set u.names k (some a)) → LetGoes u (becomes (sizes p) u k v) area bs table (Ok j)
 unfolding becomes stopped with_name
 let_done p u k {area} {bs} {table} {j = j} a c e l st =
     subst (λ v. LetGoes u (becomes (sizes p) u k v) area bs table (Ok j)) (sym e)
     (subst (λ b. LetGoes u (pick b (with_name u k a) (stopped u 6)) area bs table (Ok j)) (sym (lt-ltb k 64 l)) (let_on st refl refl))
 
-pub let_exit : {u v : State ℕ} {area bs : List ℕ} {table : List Slot} (r : Result ℕ Stop) (x : Stop) → IsErrAnd r (λ y. y ≡ x) → LetGoes u v area bs table (Err x) → LetGoes u v area bs table r
+pub let_exit : {u v : State ℕ} {area bs : List ℕ} {table : List (Option View)} (r : Result ℕ Stop) (x : Stop) → IsErrAnd r (λ y. y ≡ x) → LetGoes u v area bs table (Err x) → LetGoes u v area bs table r
 let_exit {u} {v} {area} {bs} {table} r x b h =
     let q = err_from_is_err_and r b in
     subst (λ z. LetGoes u v area bs table z) (sym q.1) (subst (λ y. LetGoes u v area bs table (Err y)) (sym q.2) h)
@@ -140,13 +138,13 @@ plain_set ns k a h new =
     some_same : {a b : Array ℕ} → some a ≡ some b → a ≡ b
     some_same e = cc
 
-stood_set : {area new bs : List ℕ} {table after : List Slot} (ns : List (Cell ℕ)) (k : ℕ) (a : Array ℕ) → Stood area bs table ns → ((is : List ℕ) → In a.shape is → Pattern (a.at is)) → Tabled new bs after (set ns k (some a)) → Stood new bs after (set ns k (some a))
+stood_set : {area new bs : List ℕ} {table after : List (Option View)} (ns : List (Cell ℕ)) (k : ℕ) (a : Array ℕ) → Stood area bs table ns → ((is : List ℕ) → In a.shape is → Pattern (a.at is)) → Tabled new bs after (set ns k (some a)) → Stood new bs after (set ns k (some a))
 stood_set ns k a st plain t =
     record { many = length-set ns k (some a) ∙ st.many; tabled = t; plain = plain_set ns k a st.plain plain }
 
 module _ (ws : List ℕ) (i : ℕ) (run : Runnable ws) (area bs : List ℕ) (m : Memory) (counted : Counted m) (n : ℕ) (left : n ≡ length area - m.held) where
   -- a view that the expression is has the shape that was planned
-  pub view_size : {p : Planned} (v : View) → Stands ws i → Standing area bs m.names → PlannedAt ws bs m.names i n (Ok p) → ViewOf ws i m.names bs v → slot_size (Held v) ≡ size (shape_of p.shape)
+  pub view_size : {p : Planned} (v : View) → Stands ws i → Standing area bs m.names → PlannedAt ws bs m.names i n (Ok p) → ViewOf ws i m.names bs v → slot_size (Some v) ≡ size (shape_of p.shape)
   unfolding slot_size
   view_size {p} v st sd h o = go (h.right st.expr st.rest st.enc area sd.names 0 sd.stood.tabled)
     where
@@ -157,14 +155,14 @@ module _ (ws : List ℕ) (i : ℕ) (run : Runnable ws) (area bs : List ℕ) (m :
     value_is : value_in (sizes (length area)) binary64 (inputs_of bs) u e ≡ value (sizes (length area)) binary64 (inputs_of bs) u.names n e
     value_is = value_left area bs m u n counted st left e
 
-    pub plan_let_stop : (new : List ℕ) (table : List Slot) {x : Stop} → PlannedAt ws bs m.names i n (Err x) → LetGoes u (becomes (sizes (length area)) u k (value_in (sizes (length area)) binary64 (inputs_of bs) u e)) new bs table (Err x)
+    pub plan_let_stop : (new : List ℕ) (table : List (Option View)) {x : Stop} → PlannedAt ws bs m.names i n (Err x) → LetGoes u (becomes (sizes (length area)) u k (value_in (sizes (length area)) binary64 (inputs_of bs) u e)) new bs table (Err x)
     plan_let_stop new table {x} h = go (h.right e t enc area u.names (length area) st.tabled)
       where
         go : Plans (value (sizes (length area)) binary64 (inputs_of bs) u.names n e) (Err x) → LetGoes u (becomes (sizes (length area)) u k (value_in (sizes (length area)) binary64 (inputs_of bs) u e)) new bs table (Err x)
         go (stops h) = let_stop (length area) u k (value_is ∙ h)
 
     module _ (p : Planned) (h : PlannedAt ws bs m.names i n (Ok p)) where
-      pub plan_let_nowhere : (new : List ℕ) (table : List Slot) {x : Stop} → 64 ≤ k → fault_number x.fault ≡ 6 → LetGoes u (becomes (sizes (length area)) u k (value_in (sizes (length area)) binary64 (inputs_of bs) u e)) new bs table (Err x)
+      pub plan_let_nowhere : (new : List ℕ) (table : List (Option View)) {x : Stop} → 64 ≤ k → fault_number x.fault ≡ 6 → LetGoes u (becomes (sizes (length area)) u k (value_in (sizes (length area)) binary64 (inputs_of bs) u e)) new bs table (Err x)
       plan_let_nowhere new table {x} l six = go (h.right e t enc area u.names (length area) st.tabled)
         where
           go : Plans (value (sizes (length area)) binary64 (inputs_of bs) u.names n e) (Ok p) → LetGoes u (becomes (sizes (length area)) u k (value_in (sizes (length area)) binary64 (inputs_of bs) u e)) new bs table (Err x)

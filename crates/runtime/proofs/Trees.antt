@@ -1,5 +1,5 @@
 -- An expression that was planned is a tree whose leaves are there: its loop has the numbers of the value that it comes to.
-use Rattle.std.proofs.Common.{◌≡◌, ℕ, zero, suc, ◌+◌, ◌<◌, List, drop, sym, ap, ◌∙◌, subst, arith}
+use Rattle.std.proofs.Common.{◌≡◌, ℕ, zero, suc, ◌+◌, ◌<◌, List, drop, sym, ap, ◌∙◌, subst, arith, Option}
 use Rattle.semantics.specs.Shapes.{size, In, unflat, up_to}
 use Rattle.semantics.specs.Arrays.{Array}
 use Rattle.semantics.specs.Values.{Expr, name, input, constant, count, each, both, choose, fold, scan, shape_to, turn, part, join, rows, Cell, val, value}
@@ -13,7 +13,7 @@ use Rattle.program.specs.declared.step.Step.{Step}
 use Rattle.program.specs.Spelling.{spell}
 use Rattle.program.specs.Words.{steps_in}
 use Rattle.program.specs.Standing.{steps_from}
-use Rattle.kernels.specs.declared.slot.Slot.{Slot}
+use Rattle.views.specs.declared.view.View.{View}
 use Rattle.kernels.specs.Trees.{Fusable, tree, Leaves, PlainConstants, Fused}
 use Rattle.kernels.specs.Filling.{Ready, tree_array}
 use Rattle.kernels.proofs.Fusing.{trees_fuse}
@@ -61,7 +61,7 @@ constants_plain (part ps e) r f h = absurd f
 constants_plain (join x e d) r f h = absurd f
 constants_plain (rows e d) r f h = absurd f
 
-module _ (ws : List ℕ) (i : ℕ) (run : Runnable ws) (area bs : List ℕ) (table : List Slot) (ns : List (Cell ℕ)) (st : Stood area bs table ns)
+module _ (ws : List ℕ) (i : ℕ) (run : Runnable ws) (area bs : List ℕ) (table : List (Option View)) (ns : List (Cell ℕ)) (st : Stood area bs table ns)
     (e : Expr ℕ) (r : List Step) (enc : steps_from ws i ≡ spell e r) (p n : ℕ) (a : Array ℕ) (c : ℕ) (is : value (sizes p) binary64 (inputs_of bs) ns n e ≡ val a c) where
   fusable : Fusable e
   fusable = (tree_built e r (subst (λ l. AllBuilt l) enc (built_from ws i run.built))).tree

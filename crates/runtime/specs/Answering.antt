@@ -1,20 +1,24 @@
 -- What running a text answers: why it was refused, with nothing lent changed; or what the meaning says of the program that the text is.
-use Rattle.std.specs.Prelude.{◌≡◌, ℕ, ◌+◌, ◌*◌, ◌^◌, ◌<◌, ◌≤◌, List, [], length, drop, slice_index}
+use Rattle.std.specs.Prelude.{◌≡◌, ℕ, ◌+◌, ◌*◌, ◌^◌, ◌<◌, ◌≤◌, List, [], length, drop, slice_index, Ok, Err, Result}
 use Rattle.semantics.specs.Programs.{Program, shows, ends}
 use Rattle.numbers.specs.Operations.{binary64}
 use Rattle.encoding.specs.Format.{inputs_of, offsets, stop}
 use Rattle.program.specs.Spelling.{spell_program}
 use Rattle.grammar.specs.Texts.{taken, no_program, too_much, Judged}
+use Rattle.reader.specs.declared.judging.Flaw.{Flaw}
 use Rattle.reader.specs.Judging.{mark_places}
 use Rattle.reader.specs.Reading.{Written}
 use Rattle.runtime.specs.declared.answer.Refusal.{Refusal}
 use Rattle.runtime.specs.declared.answer.Refusal.TheVariants.{NoProgram, TooMuch, Input, Steps, Work}
-use Rattle.runtime.specs.declared.answer.Answer.{Answer}
-use Rattle.runtime.specs.declared.answer.Answer.TheVariants.{Refused, Run}
 use Rattle.runtime.specs.declared.run.Ran.{Ran}
 use Rattle.runtime.specs.Built.{AllBuilt, UnbuiltAt}
 use Rattle.runtime.specs.Planning.{sizes}
 use Rattle.runtime.specs.Running.{ShowsAs}
+
+-- the refusal that a flaw of the text is
+abbrev pub for_flaw : Flaw → Refusal
+for_flaw (Flaw.NoProgram i) = NoProgram i
+for_flaw (Flaw.TooMuch i) = TooMuch i
 
 -- the number of a refusal, and its place: a byte of the text, an input, or which of the lent slices is too short
 abbrev pub refusal_number : Refusal → ℕ
@@ -71,7 +75,7 @@ pub record RunsText (t bs : List ℕ) (p : ℕ) (old-steps new-steps old-work ne
   pub steps : Written old-steps new-steps (length (spell_program taken.program [])) (spell_program taken.program []) (mark_places t)
   pub work : drop p new-work ≡ drop p old-work
 
-abbrev pub Answers : List ℕ → List ℕ → ℕ → List ℕ → List ℕ → List ℕ → List ℕ → List ℕ → List ℕ → Answer → Type 0
-Answers t bs p old-steps new-steps old-work new-work old-room new-room (Refused r) =
+abbrev pub Answers : List ℕ → List ℕ → ℕ → List ℕ → List ℕ → List ℕ → List ℕ → List ℕ → List ℕ → Result Ran Refusal → Type 0
+Answers t bs p old-steps new-steps old-work new-work old-room new-room (Err r) =
     Refuses t bs p (length old-steps) (length old-work) r × (new-steps ≡ old-steps) × (new-work ≡ old-work) × (new-room ≡ old-room)
-Answers t bs p old-steps new-steps old-work new-work old-room new-room (Run r) = RunsText t bs p old-steps new-steps old-work new-work old-room new-room r
+Answers t bs p old-steps new-steps old-work new-work old-room new-room (Ok r) = RunsText t bs p old-steps new-steps old-work new-work old-room new-room r

@@ -24,7 +24,7 @@ built Part = false
 built (Join x) = false
 built Rows = false
 built (Item k) = false
-built (Slice f b s m) = false
+built (Slice s) = false
 
 pub data AllBuilt : List Step → Type 0 where
   none : AllBuilt []

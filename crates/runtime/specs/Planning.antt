@@ -1,5 +1,5 @@
 -- What planning an expression answers: the shape and the count of the value that it comes to, or its fault.
-use Rattle.std.specs.Prelude.{◌≡◌, ℕ, ◌≤◌, List, IfOk, Ok, Err, Result, slice_index_or}
+use Rattle.std.specs.Prelude.{◌≡◌, ℕ, ◌≤◌, List, IfOk, Ok, Err, Result, slice_index_or, Option}
 use Rattle.semantics.specs.Shapes.{size}
 use Rattle.semantics.specs.Arrays.{Array}
 use Rattle.semantics.specs.Values.{Expr, Cell, none, Value, fault, val, Sizes, made as counted, held, given, value}
@@ -9,7 +9,7 @@ use Rattle.encoding.specs.ShapeOf.{shape_of}
 use Rattle.program.specs.declared.step.Step.{Step}
 use Rattle.program.specs.Spelling.{spell}
 use Rattle.program.specs.Standing.{steps_from, Skips}
-use Rattle.kernels.specs.declared.slot.Slot.{Slot}
+use Rattle.views.specs.declared.view.View.{View}
 use Rattle.kernels.specs.Filling.{Tabled}
 use Rattle.runtime.specs.declared.fault.Stop.{Stop}
 use Rattle.runtime.specs.declared.plan.Planned.{Planned}
@@ -24,7 +24,7 @@ pub data Plans (v : Value ℕ) : Result Planned Stop → Type 0 where
   stops : {s : Stop} → v ≡ fault (fault_number s.fault) → Plans v (Err s)
 
 -- right for every expression that stands at i, whatever the table stands for
-pub record PlannedAt (ws bs : List ℕ) (table : List Slot) (i n : ℕ) (r : Result Planned Stop) : Type 0 where
+pub record PlannedAt (ws bs : List ℕ) (table : List (Option View)) (i n : ℕ) (r : Result Planned Stop) : Type 0 where
   pub within : IfOk r (λ p. (p.count ≤ n) × (size (shape_of p.shape) ≤ p.count))
   pub skips : IfOk r (λ p. Skips ws i p.next)
   pub right : (e : Expr ℕ) (t : List Step) → steps_from ws i ≡ spell e t → (area : List ℕ) (ns : List (Cell ℕ)) (p : ℕ) → Tabled area bs table ns → Plans (value (sizes p) binary64 (inputs_of bs) ns n e) r
@@ -36,7 +36,7 @@ pub record Counts (s : List ℕ) (n c j : ℕ) (r : Result Planned Stop) : Type 
   pub right : (a : Array ℕ) → a.shape ≡ s → Plans (counted n c a) r
 
 -- the array of name k, or of input k, in n places
-pub record NamePlan (table : List Slot) (k n j : ℕ) (r : Result Planned Stop) : Type 0 where
+pub record NamePlan (table : List (Option View)) (k n j : ℕ) (r : Result Planned Stop) : Type 0 where
   pub within : IfOk r (λ p. (p.count ≤ n) × (size (shape_of p.shape) ≤ p.count))
   pub next : IfOk r (λ p. p.next ≡ j)
   pub right : (area bs : List ℕ) (ns : List (Cell ℕ)) → Tabled area bs table ns → Plans (held n (slice_index_or ns k none)) r

@@ -1,5 +1,5 @@
 -- What a run shows and how it ends, against the meaning.
-use Rattle.std.specs.Prelude.{◌≡◌, ℕ, ◌-◌, List, [], ◌∷◌, length, nat_le, nat_lt}
+use Rattle.std.specs.Prelude.{◌≡◌, ℕ, ◌-◌, List, [], ◌∷◌, length, nat_le, nat_lt, Ok, Err, Result}
 use Rattle.semantics.specs.Shapes.{pick}
 use Rattle.semantics.specs.Programs.{Program, Shown as Listed, shows, ends}
 use Rattle.numbers.specs.Operations.{binary64}
@@ -9,16 +9,15 @@ use Rattle.encoding.specs.Writing.{array_bytes}
 use Rattle.encoding.specs.ReadBack.{shown_bytes}
 use Rattle.program.specs.Spelling.{spell_program}
 use Rattle.program.specs.Words.{steps_in}
-use Rattle.runtime.specs.declared.run.End.{End}
-use Rattle.runtime.specs.declared.run.End.TheVariants.{Done, Stopped}
+use Rattle.runtime.specs.declared.fault.Stop.{Stop}
 use Rattle.runtime.specs.declared.run.Ran.{Ran}
 use Rattle.runtime.specs.Faults.{fault_number}
 use Rattle.runtime.specs.Planning.{sizes}
 
 -- 0, or the number of the fault that ended a run
-abbrev pub end_number : End → ℕ
-end_number Done = 0
-end_number (Stopped x) = fault_number x.fault
+abbrev pub end_number : Result (Unit {0}) Stop → ℕ
+end_number (Ok u) = 0
+end_number (Err x) = fault_number x.fault
 
 -- how many bytes a shown array takes
 unfoldable pub bytes_of : Listed ℕ → ℕ

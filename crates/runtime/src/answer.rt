@@ -1,5 +1,10 @@
-// What running a text answers.
-use crate::run::Ran;
+// Why a text is not run.
+ghost use Rattle.std.specs.Prelude.{◌≡◌};
+ghost use Rattle.runtime.specs.Answering.{for_flaw};
+ghost use Rattle.runtime.specs.declared.answer.Refusal.TheVariants.{Input};
+
+use encoding::inputs::BadInput;
+use reader::judging::Flaw;
 
 pub mod numbering;
 
@@ -18,8 +23,21 @@ pub enum Refusal {
     Work,
 }
 
-#[derive(Clone, Copy)]
-pub enum Answer {
-    Refused(Refusal),
-    Run(Ran),
+impl From<Flaw> for Refusal {
+    ghost from_gives = { λ flaw r. r ≡ for_flaw flaw };
+
+    fn from(flaw: Flaw) -> Refusal {
+        match flaw {
+            Flaw::NoProgram(at) => Refusal::NoProgram(at),
+            Flaw::TooMuch(at) => Refusal::TooMuch(at),
+        }
+    }
+}
+
+impl From<BadInput> for Refusal {
+    ghost from_gives = { λ bad r. r ≡ Input bad.input };
+
+    fn from(bad: BadInput) -> Refusal {
+        Refusal::Input(bad.input)
+    }
 }

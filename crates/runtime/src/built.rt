@@ -8,26 +8,25 @@ use program::step::Step;
 fn is_built(step: Step) -> bool
     ensures { result ≡ built step }
 {
-    match step {
-        Step::Let(_) => true,
-        Step::Show => true,
-        Step::Name(_) => true,
-        Step::Input(_) => true,
-        Step::Constant(_) => true,
-        Step::Count(_) => true,
-        Step::Each(_) => true,
-        Step::Both(_) => true,
-        _ => false,
-    }
+    matches!(
+        step,
+        Step::Let(_)
+            | Step::Show
+            | Step::Name(_)
+            | Step::Input(_)
+            | Step::Constant(_)
+            | Step::Count(_)
+            | Step::Each(_)
+            | Step::Both(_)
+    )
 }
 
 // The first step that is not built, or none where all are.
 pub fn first_unbuilt(steps: &[Step]) -> Option<usize>
     ensures { MatchOption result (AllBuilt steps.now) (λ k. UnbuiltAt steps.now k) }
 {
-    for k in 0..steps.len() {
-        let step = steps[k];
-        if !is_built(step) {
+    for (k, step) in steps.iter().enumerate() {
+        if !is_built(*step) {
             return Some(k);
         }
     }

@@ -1,4 +1,6 @@
 // Why a run ends early, and at which step.
+ghost use Rattle.std.specs.Prelude.{◌≡◌};
+
 use encoding::shape::Shape;
 
 pub mod numbering;
@@ -19,4 +21,14 @@ pub enum Fault {
 pub struct Stop {
     pub node: usize,
     pub fault: Fault,
+}
+
+impl Fault {
+    // A run's end by this fault, at a step.
+    pub fn at(self, node: usize) -> Stop
+        ensures node { result.node ≡ node }
+        ensures fault { result.fault ≡ self }
+    {
+        Stop { node, fault: self }
+    }
 }

@@ -1,6 +1,6 @@
 // The plan of an expression: what it comes to is not computed yet, only its shape, how many places are counted
 // on its way, and every fault, in the order of the operations: operands before their operation, left before right.
-ghost use Rattle.std.specs.Prelude.{◌^◌, ◌≤◌};
+ghost use Rattle.std.specs.Prelude.{◌≡◌, ◌^◌, ◌≤◌, None, slice_index_or};
 ghost use Rattle.encoding.specs.ShapeOf.{shape_of};
 ghost use Rattle.program.specs.Standing.{Stands};
 ghost use Rattle.program.specs.Words.{steps_in};
@@ -8,12 +8,12 @@ ghost use Rattle.runtime.specs.Built.{AllBuilt};
 ghost use Rattle.runtime.specs.Planning.{PlannedAt, Counts, NamePlan, InputPlan};
 
 use crate::fault::{Fault, Stop};
+use encoding::broadcast::broadcast;
 use encoding::inputs::find_input;
 use encoding::shape::Shape;
-use kernels::slot::Slot;
 use program::step::Step;
 use program::words::step_at;
-use views::broadcast::{broadcast_shape, can_broadcast};
+use views::view::View;
 
 // The shape of what an expression comes to, the places counted, and the node behind the expression.
 #[derive(Clone, Copy)]
@@ -37,10 +37,7 @@ fn count_array(
 {
     let size = shape.size();
     if size > left - before {
-        return Err(Stop {
-            node,
-            fault: Fault::Places,
-        });
+        return Err(Fault::Places.at(node));
     }
     Ok(Planned {
         shape,
@@ -49,9 +46,16 @@ fn count_array(
     })
 }
 
+// The array that a name has, if there is such a name.
+pub(crate) fn view_of(names: &[Option<View>; 64], name: u32) -> Option<View>
+    ensures { result ≡ slice_index_or names.now name None }
+{
+    *names.get(name as usize)?
+}
+
 // A name's array: using it counts as a copy.
 fn plan_name(
-    names: &[Slot; 64],
+    names: &[Option<View>; 64],
     name: u32,
     node: usize,
     next: usize,
@@ -60,20 +64,7 @@ fn plan_name(
     requires small { left ≤ 2 ^ 26 }
     ensures { NamePlan names.now name left next result }
 {
-    let k = name as usize;
-    if k >= 64 {
-        return Err(Stop {
-            node,
-            fault: Fault::Nothing,
-        });
-    }
-    let slot = names[k];
-    let Slot::Held(view) = slot else {
-        return Err(Stop {
-            node,
-            fault: Fault::Nothing,
-        });
-    };
+    let view = view_of(names, name).ok_or(Fault::Nothing.at(node))?;
     count_array(node, next, view.shape, 0, left)
 }
 
@@ -88,12 +79,7 @@ fn plan_input(
     requires small { left ≤ 2 ^ 26 }
     ensures { InputPlan inputs.now input left next result }
 {
-    let Some(head) = find_input(inputs, input as usize) else {
-        return Err(Stop {
-            node,
-            fault: Fault::Nothing,
-        });
-    };
+    let head = find_input(inputs, input as usize).ok_or(Fault::Nothing.at(node))?;
     count_array(node, next, head.shape, 0, left)
 }
 
@@ -101,7 +87,7 @@ fn plan_input(
 pub fn plan(
     words: &[u32],
     node: usize,
-    names: &[Slot; 64],
+    names: &[Option<View>; 64],
     inputs: &[u8],
     left: u64,
 ) -> Result<Planned, Stop>
@@ -138,13 +124,9 @@ pub fn plan(
         Step::Both(_) => {
             let a = plan(words, behind, names, inputs, left)?;
             let b = plan(words, a.next, names, inputs, left - a.count)?;
-            if !can_broadcast(a.shape, b.shape) {
-                return Err(Stop {
-                    node,
-                    fault: Fault::Shapes(a.shape, b.shape),
-                });
-            }
-            let shape = broadcast_shape(a.shape, b.shape);
+            let Some(shape) = broadcast(&a.shape, &b.shape) else {
+                return Err(Fault::Shapes(a.shape, b.shape).at(node));
+            };
             count_array(node, b.next, shape, a.count + b.count, left)
         }
         _ => unreachable(),

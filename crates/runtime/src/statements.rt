@@ -16,16 +16,17 @@ ghost use Rattle.runtime.specs.Statements.{Keeps, GoodSlots, LetGoes, ShowGoes, 
 
 use crate::fault::{Fault, Stop};
 use crate::output::show_tree;
-use crate::plan::plan;
+use crate::plan::{plan, view_of};
 use encoding::inputs::find_input;
 use encoding::shape::Shape;
-use kernels::slot::Slot;
+use kernels::env::Env;
 use kernels::storing::store_with;
 use memory::binding::bind;
 use memory::memory::Memory;
 use memory::reserve::reserve;
 use program::step::Step;
 use program::words::step_at;
+use views::lent::Lent;
 use views::view::View;
 use views::whole::{of_buffer, of_input};
 
@@ -59,53 +60,33 @@ pub fn run_show(
 {
     let left = area.len() as u64 - memory.held;
     let planned = plan(words, node, &memory.names, inputs, left)?;
-    match show_tree(
+    let env = Env {
         words,
-        node,
-        &memory.names,
-        area,
-        inputs,
-        planned.shape,
-        room,
-        shown,
-        scratch,
-    ) {
-        Some(end) => Ok(Shown {
-            next: planned.next,
-            end,
-        }),
-        None => Err(Stop {
-            node,
-            fault: Fault::Room,
-        }),
-    }
+        names: &memory.names,
+        lent: Lent {
+            area,
+            bytes: inputs,
+        },
+        shape: planned.shape,
+    };
+    let end = show_tree(&env, node, room, shown, scratch).ok_or(Fault::Room.at(node))?;
+    Ok(Shown {
+        next: planned.next,
+        end,
+    })
 }
 
 // The view that the expression at `node` is, where it is just a name or an input: such an array is not copied.
-fn find_view(words: &[u32], node: usize, names: &[Slot; 64], inputs: &[u8]) -> Option<View>
+fn find_view(words: &[u32], node: usize, names: &[Option<View>; 64], inputs: &[u8]) -> Option<View>
     requires stands { Stands words.now node }
     requires good { GoodSlots names.now }
     ensures { IfSome result (λ v. ViewOf words.now node names.now inputs.now v) }
 {
-    let Some(step) = step_at(words, node) else {
-        return None;
-    };
+    let step = step_at(words, node)?;
     match step {
-        Step::Name(k) => {
-            let k = k as usize;
-            if k >= 64 {
-                return None;
-            }
-            let slot = names[k];
-            match slot {
-                Slot::Held(view) => Some(view),
-                Slot::Empty => None,
-            }
-        }
+        Step::Name(k) => view_of(names, k),
         Step::Input(k) => {
-            let Some(head) = find_input(inputs, k as usize) else {
-                return None;
-            };
+            let head = find_input(inputs, k as usize)?;
             Some(of_input(head))
         }
         _ => None,
@@ -162,10 +143,7 @@ pub fn run_let(
     let planned = plan(words, node, &memory.names, inputs, left)?;
     let k = name as usize;
     if k >= 64 {
-        return Err(Stop {
-            node,
-            fault: Fault::Nothing,
-        });
+        return Err(Fault::Nothing.at(node));
     }
     match find_view(words, node, &memory.names, inputs) {
         Some(view) => bind(memory, k, view),

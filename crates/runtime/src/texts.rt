@@ -2,13 +2,12 @@
 ghost use Rattle.std.specs.Prelude.{◌≡◌, ◌+◌, ◌^◌, ◌<◌, ◌≤◌, length, Decides};
 ghost use Rattle.runtime.specs.Answering.{Enough, Answers};
 
-use crate::answer::{Answer, Refusal};
+use crate::answer::Refusal;
 use crate::built::first_unbuilt;
-use crate::run::run_program;
+use crate::run::{Ran, run_program};
 use encoding::inputs::count_inputs;
 use kernels::storing::SCRATCH;
 use program::step::Step;
-use reader::judging::Verdict;
 use reader::judging::reading::read_text;
 use reader::programs::write_steps;
 
@@ -29,33 +28,27 @@ pub fn run_text(
     steps: &mut [u32],
     work: &mut [u64],
     room: &mut [u8],
-) -> Answer
+) -> Result<Ran, Refusal>
     ensures { Answers text.now inputs.now places steps.old steps.new work.old work.new room.old room.new result }
 {
     let mut read = [Step::End; 2048];
     let mut begins = [0; 2048];
-    let count = match read_text(text, &mut read, &mut begins) {
-        Verdict::Taken(count) => count,
-        Verdict::NoProgram(at) => return Answer::Refused(Refusal::NoProgram(at)),
-        Verdict::TooMuch(at) => return Answer::Refused(Refusal::TooMuch(at)),
-    };
-    if let Some(k) = first_unbuilt(&read[0..count]) {
-        return Answer::Refused(Refusal::NoProgram(begins[k] as usize));
+    let count = read_text(text, &mut read, &mut begins)?;
+    if let Some(k) = first_unbuilt(&read[..count]) {
+        return Err(Refusal::NoProgram(begins[k] as usize));
     }
-    if let Err(bad) = count_inputs(inputs) {
-        return Answer::Refused(Refusal::Input(bad.input));
-    }
+    count_inputs(inputs)?;
     if steps.len() < 16 * count {
-        return Answer::Refused(Refusal::Steps);
+        return Err(Refusal::Steps);
     }
     if !has_places(places, work.len()) {
-        return Answer::Refused(Refusal::Work);
+        return Err(Refusal::Work);
     }
     write_steps(steps, &read, &begins, count);
     let mut scratch = [0.0; SCRATCH];
-    Answer::Run(run_program(
-        &steps[0..5 * count],
-        &mut work[0..places as usize],
+    Ok(run_program(
+        &steps[..5 * count],
+        &mut work[..places as usize],
         inputs,
         room,
         &mut scratch,

@@ -2,6 +2,7 @@
 pub mod Shapes
 pub mod Broadcast
 pub mod Parts
+pub mod Slices
 pub mod Orders
 pub mod Arrays
 pub mod Values

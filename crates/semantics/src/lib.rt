@@ -4,3 +4,4 @@
 
 pub mod laws;
 pub mod operation;
+pub mod slice;

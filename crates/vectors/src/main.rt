@@ -16,10 +16,7 @@ fn main(rt: HostRuntime) -> io::Result<()> {
     for line in BufReader::new(rt.alloc(), rt.stdin())?.lines(rt.alloc()) {
         let line = line?;
         count = count.saturating_add(1);
-        let right = match Vector::read(line.as_str()) {
-            Some(vector) => vector.holds(),
-            None => false,
-        };
+        let right = Vector::read(line.as_str()).is_some_and(|vector| vector.holds());
         if !right {
             wrong = wrong.saturating_add(1);
             println!(rt; "wrong: {line}")?;

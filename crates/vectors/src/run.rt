@@ -3,7 +3,7 @@ ghost use Rattle.std.specs.Prelude.{◌≡◌};
 ghost use Rattle.vectors.specs.Given.{given};
 
 use crate::case::Case;
-use semantics::operation::{Binary, Unary};
+use grammar::words::{find_binary, find_unary};
 
 // A case, and what another arithmetic gave for it.
 #[derive(Clone, Copy)]
@@ -17,20 +17,17 @@ impl Vector {
     pub fn read(line: &str) -> Option<Vector> {
         let mut words = line.split(' ');
         let name = words.next()?;
-        let case = if let Some(op) = unary_named(name) {
+        let case = if let Some(op) = find_unary(name.as_bytes()) {
             Case::One(op, number(words.next()?)?)
-        } else if let Some(op) = binary_named(name) {
+        } else if let Some(op) = find_binary(name.as_bytes()) {
             Case::Two(op, number(words.next()?)?, number(words.next()?)?)
         } else if name == "empty" {
-            Case::Empty(binary_named(words.next()?)?)
+            Case::Empty(find_binary(words.next()?.as_bytes())?)
         } else {
             other_named(name, number(words.next()?)?)?
         };
         let expected = number(words.next()?)?;
-        match words.next() {
-            None => Some(Vector { case, expected }),
-            Some(_) => None,
-        }
+        words.next().is_none().then_some(Vector { case, expected })
     }
 
     pub fn holds(&self) -> bool {
@@ -54,31 +51,6 @@ fn run(case: Case) -> u64
 
 fn number(word: &str) -> Option<u64> {
     u64::from_str_radix(word, 16).ok()
-}
-
-fn unary_named(name: &str) -> Option<Unary> {
-    match name {
-        "neg" => Some(Unary::Neg),
-        "abs" => Some(Unary::Abs),
-        "sqrt" => Some(Unary::Sqrt),
-        "floor" => Some(Unary::Floor),
-        "not" => Some(Unary::Not),
-        _ => None,
-    }
-}
-
-fn binary_named(name: &str) -> Option<Binary> {
-    match name {
-        "add" => Some(Binary::Add),
-        "sub" => Some(Binary::Sub),
-        "mul" => Some(Binary::Mul),
-        "div" => Some(Binary::Div),
-        "less" => Some(Binary::Less),
-        "same" => Some(Binary::Same),
-        "least" => Some(Binary::Least),
-        "most" => Some(Binary::Most),
-        _ => None,
-    }
 }
 
 fn other_named(name: &str, a: u64) -> Option<Case> {

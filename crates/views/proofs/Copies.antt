@@ -1,6 +1,7 @@
 -- Rows of places, and places axis by axis.
-use Rattle.std.proofs.Common.{◌≡◌, ℕ, ◌+◌, ◌-◌, ◌*◌, ◌^◌, ◌<◌, ◌≤◌, ◌≢◌, List, [], ◌∷◌, length, get_or, set, ℤ, pos, ◌+ℤ◌, ◌*ℤ◌, nat_abs, sym, ap, ◌∙◌, subst, add-zero, one-mul, mul-one, arith, get_or-set_other, get_or-set_same, w64, SFits, to_z, of_z, below_more}
+use Rattle.std.proofs.Common.{◌≡◌, ℕ, zero, suc, false, eqb, ◌+◌, ◌-◌, ◌*◌, ◌^◌, ◌<◌, ◌≤◌, ◌≢◌, List, [], ◌∷◌, length, get_or, set, ℤ, pos, ◌+ℤ◌, ◌*ℤ◌, nat_abs, sym, ap, ◌∙◌, subst, add-zero, one-mul, mul-one, arith, get_or-set_other, get_or-set_same, w64, SFits, to_z, of_z, below_more}
 use lib.IntN.{+ℤ_idr}
+use Rattle.std.proofs.lemmas.Bool.{false≢true}
 use Rattle.std.proofs.lemmas.Int.{to_z-of_z}
 use Rattle.semantics.specs.Shapes.{size, flat}
 use Rattle.semantics.specs.OrderLaws.{dot}
@@ -57,6 +58,11 @@ copied_numbers each = copied_row each
 pub copied_run : {area bs : List ℕ} {n from : ℕ} {z : ℤ} {out : List ℕ} → z ≡ pos 1 → ((j : ℕ) → j < n → get_or out j 0 ≡ get_or area (from + j) 0) → Copied Area area bs (n ∷ []) (z ∷ []) from out
 copied_run {area} {bs} {n} {from} {z} {out} e each =
     copied_words (λ j l. each j l ∙ ap (λ k. get_or area k 0) (ap (λ k. from + k) (sym (one-mul j)) ∙ ap (λ x. nat_abs (pos from +ℤ x *ℤ pos j)) (sym e)))
+
+-- a row that is not empty
+pub some_room : (n : ℕ) → false ≡ eqb n 0 → 0 < n
+some_room zero e = absurd (false≢true e)
+some_room (suc n) e = omega arith
 
 -- one more number of a row
 pub row_more : (f : ℕ → ℕ) (out : List ℕ) (i x : ℕ) → i < length out → ((j : ℕ) → j < i → get_or out j 0 ≡ f j) → x ≡ f i → (j : ℕ) → j < i + 1 → get_or (set out i x) j 0 ≡ f j

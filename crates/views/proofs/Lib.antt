@@ -1,5 +1,6 @@
 pub mod Integers
 pub mod Walks
+pub mod Within
 pub mod Casts
 pub mod Seeing
 pub mod Rows
@@ -8,6 +9,7 @@ pub mod CopyAxes
 pub mod Broadcasts
 pub mod Slices
 pub mod Turns
+pub mod Backward
 pub mod Packs
 pub mod Keeping
 pub mod Shifts

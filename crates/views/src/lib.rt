@@ -4,7 +4,7 @@
 pub mod broadcast;
 pub mod copying;
 pub mod laws;
-pub mod part;
+pub mod lent;
 pub mod place;
 pub mod reshape;
 pub mod shift;

@@ -4,6 +4,7 @@ ghost use Rattle.semantics.specs.Shapes.{In};
 ghost use Rattle.encoding.specs.ShapeOf.{shape_of};
 ghost use Rattle.views.specs.Views.{Good, Reaches, address, number_from, seen};
 
+use crate::lent::Lent;
 use crate::view::{Source, View};
 use encoding::shape::Shape;
 use encoding::words::read_number;
@@ -12,15 +13,11 @@ use encoding::words::read_number;
 pub fn is_place(shape: Shape, place: &[u32]) -> bool
     ensures { Decides result (In (shape_of shape) place.now) }
 {
-    if place.len() != shape.rank {
-        return false;
-    }
-    for k in 0..shape.rank {
-        if place[k] >= shape.lens[k] {
-            return false;
-        }
-    }
-    true
+    place.len() == shape.rank
+        && place
+            .iter()
+            .zip(shape.lengths())
+            .all(|(&index, &len)| index < len)
 }
 
 // The address of a place.
@@ -30,37 +27,32 @@ pub fn address_of(view: &View, place: &[u32]) -> usize
     ensures { address view.now place.now ≡ pos result }
 {
     let mut at = view.start as i64;
-    for k in 0..place.len() {
-        at += view.strides[k] * i64::from(place[k]);
+    for (&stride, &index) in view.strides.iter().zip(place) {
+        at += stride * i64::from(index);
     }
     at as usize
 }
 
 // The number at an address.
-pub fn number_at(source: Source, area: &[u64], bytes: &[u8], at: usize) -> u64
-    requires { Reaches source area.now bytes.now (suc at) }
-    ensures { result ≡ number_from source area.now bytes.now at }
+#[tactic(auto, unfolding(crate::specs::Views::number_from))]
+pub fn number_at(source: Source, lent: Lent, at: usize) -> u64
+    requires { Reaches source lent.area.now lent.bytes.now (suc at) }
+    ensures { result ≡ number_from source lent.entry.area.now lent.entry.bytes.now at }
 {
     match source {
-        Source::Area => area[at],
-        Source::Input(base) => {
-            let Some(x) = read_number(bytes, base + 8 * at) else {
-                return unreachable();
-            };
-            x
-        }
+        Source::Area => lent.area[at],
+        Source::Input(base) => read_number(lent.bytes, base + 8 * at).unwrap(),
     }
 }
 
 // The number at a place, or none where there is no such place.
-pub fn number(view: &View, area: &[u64], bytes: &[u8], place: &[u32]) -> Option<u64>
+pub fn number(view: &View, lent: Lent, place: &[u32]) -> Option<u64>
     requires good { Good view.now }
-    requires there { Reaches view.now.source area.now bytes.now view.now.high }
-    ensures { MatchOption result (In (shape_of view.now.shape) place.now → ⊥) (λ x. In (shape_of view.now.shape) place.now × (x ≡ seen area.now bytes.now view.now place.now)) }
+    requires there { Reaches view.now.source lent.area.now lent.bytes.now view.now.high }
+    ensures { MatchOption result (In (shape_of view.now.shape) place.now → ⊥) (λ x. In (shape_of view.now.shape) place.now × (x ≡ seen lent.entry.area.now lent.entry.bytes.now view.now place.now)) }
 {
     if !is_place(view.shape, place) {
         return None;
     }
-    let at = address_of(view, place);
-    Some(number_at(view.source, area, bytes, at))
+    Some(number_at(view.source, lent, address_of(view, place)))
 }

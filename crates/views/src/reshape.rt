@@ -26,10 +26,11 @@ pub fn is_packed(view: View) -> bool
     if view.shape.size() == 0 {
         return true;
     }
+    let lens = view.shape.lengths().iter().rev();
+    let strides = view.strides[..view.shape.rank].iter().rev();
     let mut below: u64 = 1;
-    for k in (0..view.shape.rank).rev() {
-        let len = view.shape.lens[k];
-        if !is_row_stride(len, view.strides[k], below) {
+    for (&len, &stride) in lens.zip(strides) {
+        if !is_row_stride(len, stride, below) {
             return false;
         }
         below *= u64::from(len);
@@ -49,9 +50,6 @@ pub fn reshape(view: View, shape: Shape) -> View
     View {
         shape,
         strides: contiguous(shape),
-        start: view.start,
-        low: view.low,
-        high: view.high,
-        source: view.source,
+        ..view
     }
 }

@@ -21,13 +21,10 @@ pub fn shift_down(view: View, to: usize) -> View
     } else {
         to
     };
-    let strides = view.strides;
     View {
-        shape: view.shape,
-        strides,
         start,
         low: to,
         high: view.high - by,
-        source: view.source,
+        ..view
     }
 }

@@ -17,6 +17,7 @@ pub fn contiguous(shape: Shape) -> [i64; 8]
         return strides;
     }
     let mut below: u64 = 1;
+    // Stays: what an adapter of `iter_mut` lends is not known to a proof once it is written
     for k in (0..shape.rank).rev() {
         strides[k] = below as i64;
         below *= u64::from(shape.lens[k]);

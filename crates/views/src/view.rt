@@ -9,6 +9,8 @@ pub enum Source {
     Input(usize),
 }
 
+// Stays: that its addresses lie so (`Good`) is asked where a view is read, and is no invariant of the type. The
+// functions that only count what slots hold, and the one that binds a name, take views of which no one asks it.
 #[derive(Clone, Copy)]
 pub struct View {
     pub shape: Shape,

@@ -2,8 +2,7 @@
 #![tactic(auto)]
 
 use anyhow::anyhow;
-use reference::fault::fault_number;
-use reference::interpret::End;
+use reference::fault::Stop;
 use reference::texts::run_text;
 use writer::console::{print_ended, print_shown};
 
@@ -14,12 +13,12 @@ fn run(rt: &HostRuntime, name: &str, text: &str, places: u64) -> anyhow::Result<
     };
     print_shown(rt, outcome.shown.as_slice())?;
     match outcome.end {
-        End::Done => Ok(()),
-        End::Fault(fault) => {
-            print_ended(rt, fault_number(fault))?;
+        Ok(()) => Ok(()),
+        Err(Stop::Fault(fault)) => {
+            print_ended(rt, u32::from(fault))?;
             Ok(())
         }
-        End::Memory => Err(anyhow!("there is no memory left")),
+        Err(Stop::Memory) => Err(anyhow!("there is no memory left")),
     }
 }
 

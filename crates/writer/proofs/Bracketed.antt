@@ -90,4 +90,4 @@ closer_short Cut = omega arith
 closer_short (Join x) = omega arith
 closer_short Rows = omega arith
 closer_short (Item k) = omega arith
-closer_short (Slice f b s m) = omega arith
+closer_short (Slice s) = omega arith

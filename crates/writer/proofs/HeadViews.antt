@@ -3,6 +3,7 @@ use Rattle.std.proofs.Common.{◌≡◌, ℕ, zero, suc, ◌/◌, ◌%◌, ◌^�
 use Rattle.std.proofs.lemmas.List.{append_assoc, append-nil}
 use Rattle.semantics.specs.Shapes.{pick}
 use Rattle.semantics.specs.Parts.{Part}
+use Rattle.semantics.specs.Slices.{slice_of}
 use Rattle.semantics.specs.Values.{Expr, name, input, constant, count, each, both, choose, fold, scan, shape_to, turn, part, join, rows}
 use Rattle.program.specs.declared.step.Step.{Step}
 use Rattle.program.specs.declared.step.Step.TheVariants.{Name, Input, Constant, Count, Each, Both, Choose, Fold, Scan, Shape, Turn, Part as Cut, Join, Rows, Slice}
@@ -102,7 +103,7 @@ module _ (e : Expr ℕ) (q : List Step) where
   behind_items (k ∷ ks) = behind_items ks
 
   -- slices
-  one_part : (p : Part) (r : List Letter) → bytes (write_part p r) ≡ step_text (Slice p.from p.backward p.step p.many) ++ bytes r
+  one_part : (p : Part) (r : List Letter) → bytes (write_part p r) ≡ step_text (Slice (slice_of p)) ++ bytes r
   unfolding bytes write_part step_text
   one_part p r =
       let sign = pick p.backward (codes "-") [] in
@@ -115,14 +116,14 @@ module _ (e : Expr ℕ) (q : List Step) where
   unfolding bytes write_more_parts slices more_text
   more_parts [] r = sym (ap (λ l. l ++ bytes r) (no_more e q))
   more_parts (p ∷ ps) r =
-      let text = step_text (Slice p.from p.backward p.step p.many) in
+      let text = step_text (Slice (slice_of p)) in
       ap (λ l. 44 ∷ 32 ∷ l) (one_part p (write_more_parts ps r) ∙ (ap (λ l. text ++ l) (more_parts ps r) ∙ sym (append_assoc text (more_text (slices ps (spell e q))) (bytes r))))
 
   pub all_parts : (ps : List Part) (r : List Letter) → bytes (write_parts ps r) ≡ list_text (slices ps (spell e q)) ++ bytes r
   unfolding write_parts slices list_text
   all_parts [] r = sym (ap (λ l. l ++ bytes r) (no_list e q))
   all_parts (p ∷ ps) r =
-      let text = step_text (Slice p.from p.backward p.step p.many) in
+      let text = step_text (Slice (slice_of p)) in
       one_part p (write_more_parts ps r) ∙ (ap (λ l. text ++ l) (more_parts ps r) ∙ sym (append_assoc text (more_text (slices ps (spell e q))) (bytes r)))
 
   pub behind_parts : (ps : List Part) → behind_list (slices ps (spell e q)) ≡ spell e q

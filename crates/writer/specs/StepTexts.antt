@@ -29,7 +29,7 @@ step_text Cut = codes "part ["
 step_text (Join x) = codes "join " ++ decimal x ++ codes "("
 step_text Rows = codes "rows("
 step_text (Item k) = decimal k
-step_text (Slice from backward by many) = decimal from ++ (codes ":" ++ pick backward (codes "-") []) ++ (decimal by ++ (codes ":" ++ decimal many ++ []))
+step_text (Slice s) = decimal s.from ++ (codes ":" ++ pick s.backward (codes "-") []) ++ (decimal s.step ++ (codes ":" ++ decimal s.many ++ []))
 
 -- how many expressions come behind a step and its brackets
 abbrev pub wants : Step → ℕ
@@ -53,7 +53,7 @@ wants Cut = 1
 wants (Join x) = 2
 wants Rows = 2
 wants (Item k) = 0
-wants (Slice f b s m) = 0
+wants (Slice s) = 0
 
 -- what closes the brackets of a step, and nothing where it has none
 abbrev pub closer : Step → List ℕ
@@ -77,7 +77,7 @@ closer Cut = codes "]("
 closer (Join x) = []
 closer Rows = []
 closer (Item k) = []
-closer (Slice f b s m) = []
+closer (Slice s) = []
 
 -- a step that stands between brackets
 abbrev pub listed : Step → Bool
@@ -101,7 +101,7 @@ listed Cut = false
 listed (Join x) = false
 listed Rows = false
 listed (Item k) = true
-listed (Slice f b s m) = true
+listed (Slice s) = true
 
 -- the first steps that stand between brackets, parted by `, `; and what is behind them
 unfoldable pub more_text : List Step → List ℕ

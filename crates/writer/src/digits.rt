@@ -15,6 +15,7 @@ pub fn hex_digits(word: u64) -> [u8; 16]
 {
     let mut digits = [0; 16];
     let mut rest = word;
+    // Stays: the lowest digit comes first, and over a reversed `iter_mut` a proof keeps nothing of the elements.
     for k in 0..16 {
         digits[15 - k] = hex_digit((rest % 16) as u8);
         rest /= 16;

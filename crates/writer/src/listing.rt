@@ -25,8 +25,8 @@ fn list_shape(heap: Global, out: &mut Vec<u8>, shape: &Shape) -> Result<(), Allo
     ensures { OnOk result (out.new.items ≡ out.old.items ++ shape_text (shape_of shape.now)) }
 {
     out.extend_from_slice(b"shape")?;
-    for k in 0..shape.rank {
-        push_length(heap, out, shape.lens[k])?;
+    for len in shape.lengths() {
+        push_length(heap, out, *len)?;
     }
     out.push(b'\n')?;
     Ok(())
@@ -36,11 +36,7 @@ fn list_shape(heap: Global, out: &mut Vec<u8>, shape: &Shape) -> Result<(), Allo
 fn row_of(shape: &Shape) -> u64
     ensures { result ≡ row_length (shape_of shape.now) }
 {
-    if shape.rank == 0 {
-        1
-    } else {
-        u64::from(shape.lens[shape.rank - 1])
-    }
+    shape.lengths().last().map_or(1, |len| u64::from(*len))
 }
 
 // A line's end behind the last number of a row, else a space.
@@ -61,6 +57,7 @@ fn list_numbers(out: &mut Vec<u8>, bytes: &[u8], at: usize, head: &Header) -> Re
 {
     let row = row_of(&head.shape);
     let count = head.shape.size();
+    // Stays: a number's place says what comes behind it, and its bytes are no slice of numbers.
     for k in 0..count {
         let Some(number) = read_number(bytes, head.start + 8 * k as usize) else {
             return unreachable();

@@ -12,12 +12,6 @@ pub fn rewrite_text(text: &[u8], room: &mut [u8]) -> Result<Option<usize>, Refus
 {
     // 16 words for each of the 2,048 steps that a program has at most
     let mut words = [0; 32_768];
-    let steps = match read_program(text, &mut words) {
-        Ok(steps) => steps,
-        Err(refusal) => return Err(refusal),
-    };
-    let Some(len) = write_program(&words[0..5 * steps], room) else {
-        return Ok(None);
-    };
-    Ok(Some(len))
+    let steps = read_program(text, &mut words)?;
+    Ok(write_program(&words[..5 * steps], room))
 }

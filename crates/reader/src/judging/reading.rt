@@ -7,7 +7,7 @@ ghost use Rattle.reader.specs.Turning.{flag_of};
 ghost use Rattle.reader.specs.Machines.{state_of, Good, Hinted};
 ghost use Rattle.reader.specs.Judging.{tally_of, is_newline, only_lines, line_ends, place_of, ReadsText};
 
-use crate::judging::{Count, Verdict};
+use crate::judging::{Count, Flaw};
 use crate::machine::{DEPTH, Machine};
 use crate::names::Span;
 use crate::stepping::moving::{advance_quick, settle_top};
@@ -86,48 +86,17 @@ fn store_place(places: &mut [u32], marks: usize, mark: Mark, i: u32)
     places[marks] = i;
 }
 
+#[tactic(auto, unfolding(grammar::specs::Automaton::is_lines))]
 fn is_lines(symbol: Symbol) -> bool
     ensures { result ≡ is_lines symbol }
 {
-    match symbol {
-        Symbol::Lines => true,
-        Symbol::Body => false,
-        Symbol::Byte(_) => false,
-        Symbol::Target(_) => false,
-        Symbol::Expr => false,
-        Symbol::Word => false,
-        Symbol::Binary(_) => false,
-        Symbol::Number(_) => false,
-        Symbol::Digits(_) => false,
-        Symbol::Hex(_) => false,
-        Symbol::Operands(_) => false,
-        Symbol::First(_) => false,
-        Symbol::More(_) => false,
-        Symbol::Item(_) => false,
-        Symbol::Step(_) => false,
-    }
+    matches!(symbol, Symbol::Lines)
 }
 
 fn is_newline(symbol: Symbol) -> bool
     ensures { result ≡ is_newline symbol }
 {
-    match symbol {
-        Symbol::Lines => false,
-        Symbol::Body => false,
-        Symbol::Byte(c) => b'\n' == c,
-        Symbol::Target(_) => false,
-        Symbol::Expr => false,
-        Symbol::Word => false,
-        Symbol::Binary(_) => false,
-        Symbol::Number(_) => false,
-        Symbol::Digits(_) => false,
-        Symbol::Hex(_) => false,
-        Symbol::Operands(_) => false,
-        Symbol::First(_) => false,
-        Symbol::More(_) => false,
-        Symbol::Item(_) => false,
-        Symbol::Step(_) => false,
-    }
+    matches!(symbol, Symbol::Byte(b'\n'))
 }
 
 // Whether the text is between lines, outside of every `again`.
@@ -157,8 +126,10 @@ fn at_last_newline(stack: &[Symbol], top: usize) -> bool
     at_lines(stack, top + 1)
 }
 
-// Reads a text: its steps and where their marks begin, in order; or why and where it is refused.
-pub fn read_text(text: &[u8], steps: &mut [Step], places: &mut [u32]) -> Verdict
+// Reads a text: its steps and where their marks begin, in order, and how many they are; or why and where it is refused.
+// A mark's place is stored where it begins and its step where that is said, mostly later, so the two are stored apart.
+// Stays: in one array of pairs a place would stand beside a step that is not yet known.
+pub fn read_text(text: &[u8], steps: &mut [Step], places: &mut [u32]) -> Result<usize, Flaw>
     requires steps_long { length steps.old ≡ 2048 }
     requires places_long { length places.old ≡ 2048 }
     ensures { ReadsText text.now steps.new places.new result }
@@ -166,22 +137,23 @@ pub fn read_text(text: &[u8], steps: &mut [Step], places: &mut [u32]) -> Verdict
     let mut machine = fresh_machine();
     let mut count = Count { marks: 0, level: 0 };
     let mut said = 0;
+    // Stays: every way reads the text around its place, so places are counted, and not bytes.
     for i in 0..text.len() {
         if i == MOST_BYTES {
-            return Verdict::TooMuch(i);
+            return Err(Flaw::TooMuch(i));
         }
         if skim(&mut machine, text, i) {
             continue;
         }
         let Some(turn) = advance_quick(&mut machine, text, i) else {
-            return Verdict::NoProgram(i);
+            return Err(Flaw::NoProgram(i));
         };
         let counted = count_mark(count, turn.mark);
         if counted.marks > MOST_MARKS {
-            return Verdict::TooMuch(i);
+            return Err(Flaw::TooMuch(i));
         }
         if counted.level > MOST_LEVELS {
-            return Verdict::TooMuch(i);
+            return Err(Flaw::TooMuch(i));
         }
         said = store_step(steps, said, turn.before);
         said = store_step(steps, said, turn.step);
@@ -190,14 +162,14 @@ pub fn read_text(text: &[u8], steps: &mut [Step], places: &mut [u32]) -> Verdict
     }
     let len = text.len();
     if at_lines(&machine.stack, machine.top) {
-        return Verdict::Taken(said);
+        return Ok(said);
     }
     let Some(last) = settle_top(&mut machine, text, len, b'\n') else {
-        return Verdict::NoProgram(len);
+        return Err(Flaw::NoProgram(len));
     };
     said = store_step(steps, said, last.step);
     if at_last_newline(&machine.stack, machine.top) {
-        return Verdict::Taken(said);
+        return Ok(said);
     }
-    Verdict::NoProgram(len)
+    Err(Flaw::NoProgram(len))
 }

@@ -1,132 +1,47 @@
-// Symbols to push, one after the other.
-ghost use Rattle.std.specs.Prelude.{◌≡◌, [], ◌∷◌};
+// Symbols to push, and the symbols that are pushed.
+ghost use Rattle.std.specs.Prelude.{◌≡◌, ◌≤◌, length};
 ghost use Rattle.reader.specs.Pushed.{symbols_of};
 
 use crate::pushes::Pushes;
 use grammar::symbol::Symbol;
 
-pub fn none() -> Pushes
-    ensures { symbols_of result ≡ [] }
-{
-    Pushes {
-        len: 0,
-        at: [
-            Symbol::Lines,
-            Symbol::Lines,
-            Symbol::Lines,
-            Symbol::Lines,
-            Symbol::Lines,
-            Symbol::Lines,
-            Symbol::Lines,
-            Symbol::Lines,
-        ],
+impl Pushes {
+    #[inline(always)]
+    pub fn as_slice(&self) -> &[Symbol]
+        ensures are { result.now ≡ symbols_of self.now }
+        ensures few { length result.now ≤ 8 }
+    {
+        &self.at[..self.len]
     }
 }
 
-pub fn one(a: Symbol) -> Pushes
-    ensures { symbols_of result ≡ a ∷ [] }
-{
-    Pushes {
-        len: 1,
-        at: [
-            a,
-            Symbol::Lines,
-            Symbol::Lines,
-            Symbol::Lines,
-            Symbol::Lines,
-            Symbol::Lines,
-            Symbol::Lines,
-            Symbol::Lines,
-        ],
-    }
+// The first eight of at least as many.
+macro_rules! first_eight {
+    ($a:expr, $b:expr, $c:expr, $d:expr, $e:expr, $f:expr, $g:expr, $h:expr $(, $more:expr)*) => {
+        [$a, $b, $c, $d, $e, $f, $g, $h]
+    };
 }
 
-pub fn two(a: Symbol, b: Symbol) -> Pushes
-    ensures { symbols_of result ≡ a ∷ b ∷ [] }
-{
-    Pushes {
-        len: 2,
-        at: [
-            a,
-            b,
-            Symbol::Lines,
-            Symbol::Lines,
-            Symbol::Lines,
-            Symbol::Lines,
-            Symbol::Lines,
-            Symbol::Lines,
-        ],
-    }
+// How many there are.
+macro_rules! how_many {
+    () => { 0 };
+    ($first:expr $(, $more:expr)*) => { 1 + how_many!($($more),*) };
 }
 
-pub fn three(a: Symbol, b: Symbol, c: Symbol) -> Pushes
-    ensures { symbols_of result ≡ a ∷ b ∷ c ∷ [] }
-{
-    Pushes {
-        len: 3,
-        at: [
-            a,
-            b,
-            c,
-            Symbol::Lines,
-            Symbol::Lines,
-            Symbol::Lines,
-            Symbol::Lines,
-            Symbol::Lines,
-        ],
-    }
+// These symbols: the array is written out, since one that is filled and copied makes reading 5 % slower.
+macro_rules! pushes {
+    ($($symbol:expr),* $(,)?) => {
+        Pushes {
+            len: how_many!($($symbol),*),
+            at: first_eight!(
+                $($symbol,)*
+                Symbol::Lines, Symbol::Lines, Symbol::Lines, Symbol::Lines,
+                Symbol::Lines, Symbol::Lines, Symbol::Lines, Symbol::Lines
+            ),
+        }
+    };
 }
 
-pub fn four(a: Symbol, b: Symbol, c: Symbol, d: Symbol) -> Pushes
-    ensures { symbols_of result ≡ a ∷ b ∷ c ∷ d ∷ [] }
-{
-    Pushes {
-        len: 4,
-        at: [
-            a,
-            b,
-            c,
-            d,
-            Symbol::Lines,
-            Symbol::Lines,
-            Symbol::Lines,
-            Symbol::Lines,
-        ],
-    }
-}
-
-pub fn six(a: Symbol, b: Symbol, c: Symbol, d: Symbol, e: Symbol, f: Symbol) -> Pushes
-    ensures { symbols_of result ≡ a ∷ b ∷ c ∷ d ∷ e ∷ f ∷ [] }
-{
-    Pushes {
-        len: 6,
-        at: [a, b, c, d, e, f, Symbol::Lines, Symbol::Lines],
-    }
-}
-
-pub fn seven(a: Symbol, b: Symbol, c: Symbol, d: Symbol, e: Symbol, f: Symbol, g: Symbol) -> Pushes
-    ensures { symbols_of result ≡ a ∷ b ∷ c ∷ d ∷ e ∷ f ∷ g ∷ [] }
-{
-    Pushes {
-        len: 7,
-        at: [a, b, c, d, e, f, g, Symbol::Lines],
-    }
-}
-
-pub fn eight(
-    a: Symbol,
-    b: Symbol,
-    c: Symbol,
-    d: Symbol,
-    e: Symbol,
-    f: Symbol,
-    g: Symbol,
-    h: Symbol,
-) -> Pushes
-    ensures { symbols_of result ≡ a ∷ b ∷ c ∷ d ∷ e ∷ f ∷ g ∷ h ∷ [] }
-{
-    Pushes {
-        len: 8,
-        at: [a, b, c, d, e, f, g, h],
-    }
-}
+pub(crate) use first_eight;
+pub(crate) use how_many;
+pub(crate) use pushes;

@@ -1,26 +1,18 @@
 // Digits that say no step yet, read in place.
-ghost use Rattle.std.specs.Prelude.{◌<◌, length};
 ghost use Rattle.reader.specs.declared.turn.Mark.{Mark};
-ghost use Rattle.reader.specs.Machines.{Good, Hinted, ReadsOn};
+ghost use Rattle.reader.specs.Machines.{Reading, ReadsOn};
 
-use crate::machine::{DEPTH, Machine};
+use crate::machine::Machine;
 use crate::turns::hex_value;
 use grammar::letters::{is_digit, is_hex};
 use grammar::symbol::Symbol;
 
 // A digit of a constant, not the last one.
 fn take_hex(machine: &mut Machine, text: &[u8], i: usize) -> bool
-    requires inside { i < length text.now }
-    requires good { Good i 8 machine.old }
-    requires hinted { Hinted text.now i machine.old }
+    requires { Reading text.now i machine.old }
     ensures { ReadsOn text.now i machine.old machine.new Mark.Inside result }
 {
-    let top = machine.top;
-    if top >= DEPTH {
-        return false;
-    }
-    let symbol = machine.stack[top];
-    let Symbol::Hex(left) = symbol else {
+    let Some(Symbol::Hex(left)) = machine.top_symbol() else {
         return false;
     };
     if left < 2 {
@@ -30,26 +22,18 @@ fn take_hex(machine: &mut Machine, text: &[u8], i: usize) -> bool
     if !is_hex(b) {
         return false;
     }
-    machine.value = machine.value * 16 + hex_value(b);
-    machine.stack[top] = Symbol::Hex(left - 1);
-    machine.word = i + 1;
-    machine.clean = false;
+    let more = machine.value * 16 + hex_value(b);
+    machine.replace_top(&[Symbol::Hex(left - 1)], i + 1);
+    machine.value = more;
     true
 }
 
 // A further digit of a number.
 fn take_digit(machine: &mut Machine, text: &[u8], i: usize) -> bool
-    requires inside { i < length text.now }
-    requires good { Good i 8 machine.old }
-    requires hinted { Hinted text.now i machine.old }
+    requires { Reading text.now i machine.old }
     ensures { ReadsOn text.now i machine.old machine.new Mark.Inside result }
 {
-    let top = machine.top;
-    if top >= DEPTH {
-        return false;
-    }
-    let symbol = machine.stack[top];
-    let Symbol::Digits(_) = symbol else {
+    let Some(Symbol::Digits(_)) = machine.top_symbol() else {
         return false;
     };
     let b = text[i];
@@ -72,35 +56,24 @@ fn take_digit(machine: &mut Machine, text: &[u8], i: usize) -> bool
 
 // The first digit of a number that is no item.
 fn take_first(machine: &mut Machine, text: &[u8], i: usize) -> bool
-    requires inside { i < length text.now }
-    requires good { Good i 8 machine.old }
-    requires hinted { Hinted text.now i machine.old }
+    requires { Reading text.now i machine.old }
     ensures { ReadsOn text.now i machine.old machine.new Mark.Inside result }
 {
-    let top = machine.top;
-    if top >= DEPTH {
-        return false;
-    }
-    let symbol = machine.stack[top];
-    let Symbol::Number(number) = symbol else {
+    let Some(Symbol::Number(number)) = machine.top_symbol() else {
         return false;
     };
     let b = text[i];
     if !is_digit(b) {
         return false;
     }
-    machine.stack[top] = Symbol::Digits(number);
+    machine.replace_top(&[Symbol::Digits(number)], i + 1);
     machine.value = (b - b'0') as u64;
-    machine.word = i + 1;
-    machine.clean = false;
     true
 }
 
 // Any of them.
 pub fn take_figure(machine: &mut Machine, text: &[u8], i: usize) -> bool
-    requires inside { i < length text.now }
-    requires good { Good i 8 machine.old }
-    requires hinted { Hinted text.now i machine.old }
+    requires { Reading text.now i machine.old }
     ensures { ReadsOn text.now i machine.old machine.new Mark.Inside result }
 {
     if take_hex(machine, text, i) {

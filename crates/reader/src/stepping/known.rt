@@ -1,13 +1,12 @@
 // Words that end in the common ways: a name that has come, and the head of an operation on whole operands.
 ghost use Rattle.std.specs.Prelude.{◌≡◌, ◌<◌, take};
 ghost use Rattle.reader.specs.Names.{part, spellings, Known};
-ghost use Rattle.reader.specs.Machines.{Good, Hinted, EndsNow};
+ghost use Rattle.reader.specs.Machines.{Standing, EndsNow};
 
-use crate::follows::{head_step, more_operands};
-use crate::machine::{DEPTH, Machine};
+use crate::follows::{head_step, more_operands, target_rest};
+use crate::machine::Machine;
 use crate::names::part_of;
 use crate::stepping::Said;
-use crate::stepping::skimming::{lay_four, lay_three};
 use grammar::letters::in_word;
 use grammar::symbol::{Symbol, Target};
 use grammar::words::{find_head, same_word};
@@ -26,8 +25,7 @@ pub fn sum_of(word: &[u8]) -> usize
 
 // Which name the word so far is, where the hint is right.
 fn known_name(machine: &Machine, text: &[u8], i: usize) -> Option<usize>
-    requires good { Good i 16 machine.now }
-    requires hinted { Hinted text.now i machine.now }
+    requires { Standing text.now i machine.now }
     ensures { Known (spellings text.now (take machine.now.count machine.now.names)) (part text.now machine.now.word i) result }
 {
     let word = part_of(text, machine.word, i);
@@ -35,8 +33,7 @@ fn known_name(machine: &Machine, text: &[u8], i: usize) -> Option<usize>
     if k >= machine.count {
         return None;
     }
-    let span = machine.names[k];
-    if !same_word(word, part_of(text, span.from, span.to)) {
+    if !same_word(word, machine.names[k].of(text)) {
         return None;
     }
     Some(k)
@@ -44,28 +41,17 @@ fn known_name(machine: &Machine, text: &[u8], i: usize) -> Option<usize>
 
 // A name in an expression.
 fn end_name(machine: &mut Machine, text: &[u8], i: usize, b: u8) -> Option<Said>
-    requires good { Good i 16 machine.old }
-    requires hinted { Hinted text.now i machine.old }
+    requires { Standing text.now i machine.old }
     ensures { EndsNow text.now i b machine.old machine.new result }
 {
-    let top = machine.top;
-    if top >= DEPTH {
-        return None;
-    }
-    let symbol = machine.stack[top];
-    let Symbol::Word = symbol else {
+    let Some(Symbol::Word) = machine.top_symbol() else {
         return None;
     };
     if in_word(b) {
         return None;
     }
-    let Some(k) = known_name(machine, text, i) else {
-        return None;
-    };
-    machine.top = top + 1;
-    machine.word = i;
-    machine.value = 0;
-    machine.clean = false;
+    let k = known_name(machine, text, i)?;
+    machine.replace_top(&[], i);
     Some(Said {
         step: Some(Step::Name(k as u32)),
     })
@@ -73,37 +59,21 @@ fn end_name(machine: &mut Machine, text: &[u8], i: usize, b: u8) -> Option<Said>
 
 // The head of an operation, of which only operands follow.
 fn end_head(machine: &mut Machine, text: &[u8], i: usize, b: u8) -> Option<Said>
-    requires good { Good i 16 machine.old }
-    requires hinted { Hinted text.now i machine.old }
+    requires { Standing text.now i machine.old }
     ensures { EndsNow text.now i b machine.old machine.new result }
 {
-    let top = machine.top;
-    if top >= DEPTH {
-        return None;
-    }
-    let symbol = machine.stack[top];
-    let Symbol::Word = symbol else {
+    let Some(Symbol::Word) = machine.top_symbol() else {
         return None;
     };
     if in_word(b) {
         return None;
     }
-    let Some(head) = find_head(part_of(text, machine.word, i)) else {
-        return None;
-    };
-    let Some(more) = more_operands(head) else {
-        return None;
-    };
-    machine.top = lay_three(
-        &mut machine.stack,
-        top,
-        Symbol::Byte(b'('),
-        Symbol::Expr,
-        Symbol::Operands(more),
+    let head = find_head(part_of(text, machine.word, i))?;
+    let more = more_operands(head)?;
+    machine.replace_top(
+        &[Symbol::Byte(b'('), Symbol::Expr, Symbol::Operands(more)],
+        i,
     );
-    machine.word = i;
-    machine.value = 0;
-    machine.clean = false;
     Some(Said {
         step: head_step(head),
     })
@@ -111,38 +81,17 @@ fn end_head(machine: &mut Machine, text: &[u8], i: usize, b: u8) -> Option<Said>
 
 // A name behind `let`.
 fn end_let(machine: &mut Machine, text: &[u8], i: usize, b: u8) -> Option<Said>
-    requires good { Good i 16 machine.old }
-    requires hinted { Hinted text.now i machine.old }
+    requires { Standing text.now i machine.old }
     ensures { EndsNow text.now i b machine.old machine.new result }
 {
-    let top = machine.top;
-    if top >= DEPTH {
-        return None;
-    }
-    let symbol = machine.stack[top];
-    let Symbol::Target(target) = symbol else {
-        return None;
-    };
-    let Target::Let = target else {
+    let Some(Symbol::Target(Target::Let)) = machine.top_symbol() else {
         return None;
     };
     if in_word(b) {
         return None;
     }
-    let Some(k) = known_name(machine, text, i) else {
-        return None;
-    };
-    machine.top = lay_four(
-        &mut machine.stack,
-        top,
-        Symbol::Byte(b' '),
-        Symbol::Byte(b'='),
-        Symbol::Byte(b' '),
-        Symbol::Expr,
-    );
-    machine.word = i;
-    machine.value = 0;
-    machine.clean = false;
+    let k = known_name(machine, text, i)?;
+    machine.replace_top(target_rest(Target::Let).as_slice(), i);
     Some(Said {
         step: Some(Step::Let(k as u32)),
     })
@@ -150,8 +99,7 @@ fn end_let(machine: &mut Machine, text: &[u8], i: usize, b: u8) -> Option<Said>
 
 // Ends the word on top before byte `b`, where it ends in one of these ways.
 pub fn end_known(machine: &mut Machine, text: &[u8], i: usize, b: u8) -> Option<Said>
-    requires good { Good i 16 machine.old }
-    requires hinted { Hinted text.now i machine.old }
+    requires { Standing text.now i machine.old }
     ensures { EndsNow text.now i b machine.old machine.new result }
 {
     if let Some(said) = end_name(machine, text, i, b) {

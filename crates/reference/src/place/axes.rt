@@ -24,21 +24,6 @@ pub fn with_index(place: &Place, axis: usize, index: u32) -> Place
     Place { rank, indices }
 }
 
-// Index `k` of the place with one more axis.
-fn inserted_index(place: &Place, axis: usize, index: u32, k: usize) -> u32
-    requires there { axis ≤ length (indices_of place.now) }
-    requires below { k ≤ length (indices_of place.now) }
-    ensures { result ≡ slice_index (put_in axis index (indices_of place.now)) k }
-{
-    if k == axis {
-        index
-    } else if k < axis {
-        place.indices[k]
-    } else {
-        place.indices[k - 1]
-    }
-}
-
 // The place with one more axis, and an index along it.
 pub fn insert_index(place: &Place, axis: usize, index: u32) -> Place
     requires there { axis ≤ length (indices_of place.now) }
@@ -46,10 +31,9 @@ pub fn insert_index(place: &Place, axis: usize, index: u32) -> Place
     ensures { indices_of result ≡ put_in axis index (indices_of place.now) }
 {
     let rank = place.rank + 1;
-    let mut indices = [0; 8];
-    for k in 0..rank {
-        indices[k] = inserted_index(place, axis, index, k);
-    }
+    let mut indices = place.indices;
+    indices[axis] = index;
+    indices[axis + 1..rank].copy_from_slice(&place.indices[axis..place.rank]);
     Place { rank, indices }
 }
 
@@ -73,8 +57,6 @@ pub fn row_place(row: u32, place: &Place, skip: usize) -> Place
     let rank = place.rank - skip + 1;
     let mut indices = [0; 8];
     indices[0] = row;
-    for k in 1..rank {
-        indices[k] = place.indices[skip + k - 1];
-    }
+    indices[1..rank].copy_from_slice(&place.indices[skip..place.rank]);
     Place { rank, indices }
 }

@@ -15,6 +15,7 @@ pub fn flatten(shape: &Shape, place: &Place, count: usize) -> usize
     ensures below { result < count }
 {
     let mut number = 0;
+    // Stays: over `lengths().iter().enumerate()` it was open that there are as many lengths as `rank` says, and so `overflow_mul-number`.
     for k in 0..shape.rank {
         number = number * shape.lens[k] as usize + place.indices[k] as usize;
     }
@@ -29,6 +30,7 @@ pub fn unflatten(shape: &Shape, number: usize) -> Place
     let rank = shape.rank;
     let mut indices = [0; 8];
     let mut rest = number;
+    // Stays: two arrays from the back, one read and one written: `k` names the axis of both.
     for k in (0..rank).rev() {
         let len = shape.lens[k] as usize;
         indices[k] = (rest % len) as u32;

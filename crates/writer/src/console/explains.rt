@@ -1,29 +1,27 @@
-use reader::judging::Verdict;
+use reader::judging::Flaw;
 use reader::programs::judge;
 use std::io;
 
-// Where the line that has a byte begins and ends.
-fn line_around(text: &[u8], place: usize) -> (usize, usize) {
-    let mut from = 0;
-    let mut to = text.len();
-    for (i, byte) in text.iter().enumerate() {
-        if *byte == b'\n' {
-            if i < place {
-                from = i + 1;
-            } else if i < to {
-                to = i;
-            }
-        }
-    }
-    (from, to)
+// The line that has a byte, and how far the byte is from its beginning.
+fn line_around(text: &[u8], place: usize) -> (&[u8], usize) {
+    let (before, behind) = text.split_at(place.min(text.len()));
+    let start = before
+        .iter()
+        .rposition(|byte| *byte == b'\n')
+        .map_or(0, |k| k + 1);
+    let rest = behind
+        .iter()
+        .position(|byte| *byte == b'\n')
+        .unwrap_or(behind.len());
+    (&text[start..before.len() + rest], before.len() - start)
 }
 
 // Whether some program's text begins with the bytes, of which the last stands at `place`.
 fn goes_on(bytes: &[u8], place: usize) -> bool {
     match judge(bytes) {
-        Verdict::NoProgram(i) => i != place,
-        Verdict::TooMuch(_) => false,
-        Verdict::Taken(_) => true,
+        Ok(_) => true,
+        Err(Flaw::NoProgram(i)) => i != place,
+        Err(Flaw::TooMuch(_)) => false,
     }
 }
 
@@ -51,23 +49,17 @@ fn could_stand(rt: &HostRuntime, text: &[u8], place: usize) -> io::Result<String
 
 // The line that has a byte of a text, with a caret under the byte and words behind it.
 pub fn point_at(rt: &HostRuntime, text: &[u8], place: usize, words: &str) -> io::Result<()> {
-    let (from, to) = line_around(text, place);
+    let (bytes, column) = line_around(text, place);
     let mut line = String::new(rt.alloc());
-    let mut caret = String::new(rt.alloc());
-    for (i, byte) in text.iter().enumerate() {
-        if i >= from && i < to {
-            line.push(if *byte >= 32 && *byte < 127 {
-                char::from(*byte)
-            } else {
-                '?'
-            })?;
-            if i < place {
-                caret.push(' ')?;
-            }
-        }
+    for byte in bytes {
+        line.push(if matches!(*byte, 32..127) {
+            char::from(*byte)
+        } else {
+            '?'
+        })?;
     }
     eprintln!(rt; "{line}")?;
-    eprintln!(rt; "{caret}^ {words}")
+    eprintln!(rt; "{:column$}^ {words}", "")
 }
 
 // The line of a refused text with a caret under the byte, and what could have stood there.

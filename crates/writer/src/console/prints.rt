@@ -6,10 +6,7 @@ use std::io::Write;
 pub fn print_shown(rt: &HostRuntime, bytes: &[u8]) -> io::Result<()> {
     let mut text = Vec::new(rt.alloc());
     let mut at = 0;
-    for _ in 0..bytes.len() {
-        let Some(next) = list_array(rt.alloc(), &mut text, bytes, at)? else {
-            break;
-        };
+    while let Some(next) = list_array(rt.alloc(), &mut text, bytes, at)? {
         rt.stdout().write_all(text.as_slice())?;
         text.clear();
         at = next;

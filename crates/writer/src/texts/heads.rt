@@ -68,7 +68,7 @@ pub(crate) fn write_head(
 {
     let head = put_step(room, at, step);
     let close = find_closer(step);
-    if close.len() == 0 {
+    if close.is_empty() {
         return Reached { node, at: head };
     }
     let list = write_list(words, node, room, head);

@@ -1,42 +1,17 @@
 // The texts of steps.
 ghost use Rattle.std.specs.Prelude.{◌≡◌, ◌+◌, ◌^◌, ◌<◌, ◌≤◌, [], ◌++◌, length, codes, decimal, slice_index_or};
 ghost use Rattle.semantics.specs.Shapes.{pick};
-ghost use Rattle.grammar.specs.Words.{unary_word, binary_word};
+ghost use Rattle.grammar.specs.Words.{binary_word};
 ghost use Rattle.writer.specs.Overlay.{Laid};
 ghost use Rattle.writer.specs.Spellings.{spellings};
 ghost use Rattle.writer.specs.StepTexts.{step_text, wants, closer, listed};
 
 use crate::digits::hex_digits;
 use crate::texts::room::{put_bytes, put_name, put_number};
+use grammar::words::{binary_word, unary_word};
 use program::step::Step;
-use semantics::operation::{Binary, Unary};
-
-fn unary_word(k: Unary) -> &'static [u8]
-    ensures { result.now ≡ unary_word k }
-{
-    match k {
-        Unary::Neg => b"neg",
-        Unary::Abs => b"abs",
-        Unary::Sqrt => b"sqrt",
-        Unary::Floor => b"floor",
-        Unary::Not => b"not",
-    }
-}
-
-fn binary_word(k: Binary) -> &'static [u8]
-    ensures { result.now ≡ binary_word k }
-{
-    match k {
-        Binary::Add => b"add",
-        Binary::Sub => b"sub",
-        Binary::Mul => b"mul",
-        Binary::Div => b"div",
-        Binary::Less => b"less",
-        Binary::Same => b"same",
-        Binary::Least => b"least",
-        Binary::Most => b"most",
-    }
-}
+use semantics::operation::Binary;
+use semantics::slice::Slice;
 
 // What stands before the step of a slice: a minus where it goes backward.
 fn sign_before(backward: bool) -> &'static [u8]
@@ -83,15 +58,15 @@ fn put_along(room: &mut [u8], at: usize, before: &[u8], k: Binary, axis: u32) ->
     put_numbered(room, word, b" ", axis, b"(")
 }
 
-fn put_slice(room: &mut [u8], at: usize, from: u32, backward: bool, by: u32, many: u32) -> usize
+fn put_slice(room: &mut [u8], at: usize, slice: Slice) -> usize
     requires fits { at + 40 < 2 ^ 64 }
-    ensures laid { Laid room.old at (decimal from ++ (codes ":" ++ pick backward (codes "-") []) ++ (decimal by ++ (codes ":" ++ decimal many ++ []))) room.new result }
+    ensures laid { Laid room.old at (decimal slice.from ++ (codes ":" ++ pick slice.backward (codes "-") []) ++ (decimal slice.step ++ (codes ":" ++ decimal slice.many ++ []))) room.new result }
     ensures short { result ≤ at + 40 }
 {
-    let sign = put_number(room, at, from);
-    let step = put_bytes(room, sign, sign_before(backward));
-    let colon = put_number(room, step, by);
-    put_numbered(room, colon, b":", many, b"")
+    let sign = put_number(room, at, slice.from);
+    let step = put_bytes(room, sign, sign_before(slice.backward));
+    let colon = put_number(room, step, slice.step);
+    put_numbered(room, colon, b":", slice.many, b"")
 }
 
 pub(crate) fn put_step(room: &mut [u8], at: usize, step: Step) -> usize
@@ -120,7 +95,7 @@ pub(crate) fn put_step(room: &mut [u8], at: usize, step: Step) -> usize
         Step::Join(x) => put_numbered(room, at, b"join ", x, b"("),
         Step::Rows => put_bytes(room, at, b"rows("),
         Step::Item(k) => put_number(room, at, k),
-        Step::Slice(from, backward, by, many) => { put_slice(room, at, from, backward, by, many) }
+        Step::Slice(slice) => put_slice(room, at, slice),
     }
 }
 
@@ -134,7 +109,7 @@ pub(crate) fn count_wanted(step: Step) -> usize
         Step::Shape | Step::Turn | Step::Part => 1,
         Step::Both(_) | Step::Join(_) | Step::Rows => 2,
         Step::Choose => 3,
-        Step::End | Step::Again(_) | Step::Item(_) | Step::Slice(_, _, _, _) => 0,
+        Step::End | Step::Again(_) | Step::Item(_) | Step::Slice(_) => 0,
         Step::Name(_) | Step::Input(_) | Step::Constant(_) | Step::Count(_) => 0,
     }
 }
@@ -146,11 +121,7 @@ pub(crate) fn find_closer(step: Step) -> &'static [u8]
     match step {
         Step::Put(_) => b"] = ",
         Step::Shape | Step::Turn | Step::Part => b"](",
-        Step::End | Step::Let(_) | Step::Show | Step::Again(_) => b"",
-        Step::Name(_) | Step::Input(_) | Step::Constant(_) | Step::Count(_) => b"",
-        Step::Each(_) | Step::Both(_) | Step::Choose => b"",
-        Step::Fold(_, _) | Step::Scan(_, _) | Step::Join(_) | Step::Rows => b"",
-        Step::Item(_) | Step::Slice(_, _, _, _) => b"",
+        _ => b"",
     }
 }
 
@@ -158,12 +129,5 @@ pub(crate) fn find_closer(step: Step) -> &'static [u8]
 pub(crate) fn is_listed(step: Step) -> bool
     ensures { result ≡ listed step }
 {
-    match step {
-        Step::Item(_) | Step::Slice(_, _, _, _) => true,
-        Step::End | Step::Let(_) | Step::Put(_) | Step::Show | Step::Again(_) => false,
-        Step::Name(_) | Step::Input(_) | Step::Constant(_) | Step::Count(_) => false,
-        Step::Each(_) | Step::Both(_) | Step::Choose => false,
-        Step::Fold(_, _) | Step::Scan(_, _) | Step::Join(_) | Step::Rows => false,
-        Step::Shape | Step::Turn | Step::Part => false,
-    }
+    matches!(step, Step::Item(_) | Step::Slice(_))
 }

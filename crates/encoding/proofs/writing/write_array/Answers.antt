@@ -1,13 +1,12 @@
-use Rattle.std.proofs.Common.{◌≡◌, ℕ, ◌+◌, ◌*◌, ◌≤◌, List, length, refl, ap, ◌∙◌, arith}
+use Rattle.std.proofs.Common.{◌≡◌, ℕ, ◌+◌, ◌*◌, ◌≤◌, List, length, ap, ◌∙◌, rules, arith}
 use Rattle.std.proofs.lemmas.List.{length-take-le}
 use Rattle.encoding.specs.declared.shape.Shape.{Shape}
 use Rattle.encoding.specs.ShapeOf.{shape_of}
-use Rattle.encoding.specs.Words.{written}
 use Rattle.encoding.specs.Writing.{head_bytes, number_bytes, array_bytes}
-use Rattle.encoding.proofs.Writings.{written_written, length_head_bytes, length_number_bytes, length_array_bytes}
+use Rattle.encoding.proofs.Writings.{writes_none, writes_behind, length_head_bytes, length_array_bytes}
 use Rattle.encoding.proofs.writing.write_array.Goals as goal
 
--- the sizes of the three pieces, by rank and count
+-- the sizes of the head and of the whole, by rank and count
 module _ (s : Shape) (ns : List ℕ) (few : s.rank ≤ length s.lens) where
   head_size : length (head_bytes (shape_of s)) ≡ 1 + 4 * s.rank
   head_size = length_head_bytes (shape_of s) ∙ ap (λ n. 1 + 4 * n) (length-take-le s.rank s.lens few)
@@ -18,42 +17,22 @@ module _ (s : Shape) (ns : List ℕ) (few : s.rank ≤ length s.lens) where
 pub returns : goal.returns
 unfolding array_bytes
 returns c =
-    let fits = c.in-Some.ensures in
-    let head = c.in-Some-write_head.ensures in
-    let rest = c.in-Some-write_numbers.ensures in
+    let fits = c.in_ok-end_of.ensures in
     let s = c.args.shape in
+    let ns = c.args.numbers.now in
     let few : s.rank ≤ length s.lens = omega arith in
-    let old = c.args.room.now in
-    let at = c.args.at in
-    let begins = head_size s c.args.numbers.now few in
-    let numbers = length_number_bytes c.args.numbers.now in
-    let size = array_size s c.args.numbers.now few in
-    let there : at ≤ length old = omega arith in (
-      omega arith,
-      omega arith,
-      rest.2
-          ∙ (ap (λ r. written r c.in-Some-write_head.start (number_bytes c.args.numbers.now)) head.2
-          ∙ written_written old (head_bytes (shape_of s)) at there (number_bytes c.args.numbers.now) c.in-Some-write_head.start head.0),
-    )
+    let size = array_size s ns few in
+    writes_behind c.args.room.now c.write_head.new.room c.write_numbers.new.room (head_bytes (shape_of s)) (number_bytes ns) c.args.at c.in_ok-start.start c.write_numbers.result c.in_ok-start.ensures c.write_numbers.ensures (omega arith)
 
-pub returns-in_default : goal.returns-in_default
-returns-in_default c =
-    let small = c.in_default.ensures in
+pub returns-in_err-end_of : goal.returns-in_err-end_of
+returns-in_err-end_of c =
+    let small = c.in_err-end_of.ensures in
     let few : c.args.shape.rank ≤ length c.args.shape.lens = omega arith in
-    let size = array_size c.args.shape c.args.numbers.now few in (omega arith, refl)
+    let size = array_size c.args.shape c.args.numbers.now few in writes_none c.args.room.now _ c.args.at (search rules) (omega arith)
 
-pub unreachable-requires : goal.unreachable-requires
-unreachable-requires c =
-    let fits = c.in-Some.ensures in
-    let small = c.in_default-write_head.ensures in
+pub returns-in_err-start : goal.returns-in_err-start
+returns-in_err-start c =
+    let fits = c.in_ok-end_of.ensures in
+    let small = c.in_err-start.ensures in
     let few : c.args.shape.rank ≤ length c.args.shape.lens = omega arith in
-    let begins = head_size c.args.shape c.args.numbers.now few in omega arith
-
-pub unreachable-requires-in_default-write_numbers : goal.unreachable-requires-in_default-write_numbers
-unreachable-requires-in_default-write_numbers c =
-    let fits = c.in-Some.ensures in
-    let head = c.in-Some-write_head.ensures in
-    let small = c.in_default-write_numbers.ensures in
-    let few : c.args.shape.rank ≤ length c.args.shape.lens = omega arith in
-    let begins = head_size c.args.shape c.args.numbers.now few in
-    let numbers = length_number_bytes c.args.numbers.now in omega arith
+    let begins = head_size c.args.shape c.args.numbers.now few in absurd (omega arith)

@@ -4,4 +4,4 @@ use Rattle.encoding.specs.Words.{bytes4, written}
 use Rattle.encoding.proofs.writing.write_head.Given as goal
 
 abbrev pub invariant-loop-k : goal.invariant-loop-k
-invariant-loop-k l = l.room ≡ written l.initial.room (l.at + 1) (flat_map bytes4 (take l.k l.shape.lens))
+invariant-loop-k l = l.room ≡ written l.initial.room (l.at + 1) (flat_map bytes4 (take l.k l.len-items))

@@ -1,21 +1,15 @@
-use Rattle.std.proofs.Common.{◌<◌, length, Some, sym, ap, ◌∙◌, arith}
-use Rattle.semantics.specs.declared.operation.Binary.TheVariants.{Add}
-use Rattle.grammar.specs.Words.{binaries, binary_word, same_word}
-use Rattle.grammar.specs.Tables.{all_binaries}
-use Rattle.grammar.proofs.Sought.{find_here, find_on, find_none}
+use Rattle.std.proofs.Common.{rules, sym, ◌∙◌}
+use borrow.Author.Tests.{tests}
+use Rattle.std.proofs.lemmas.Iterator.Adapters.{option_map_id}
+use Rattle.std.proofs.lemmas.Iterator.{YieldsList-from_slice}
+use Rattle.std.proofs.lemmas.Iterator.Search.{find_from_yields_List}
+use Rattle.std.proofs.lemmas.Iterator.Consumers.{YieldsList-from_copied}
+use Rattle.grammar.specs.Words.{same_word, binaries, binary_word}
+use Rattle.grammar.proofs.Sought.{first_is}
 use Rattle.grammar.proofs.words.find_binary.Goals as goal
-
-pub loop-k-preserved : goal.loop-k-preserved
-loop-k-preserved c =
-    let low : c.loop-k.k < length all_binaries = omega arith in
-    c.loop-k.invariant ∙ find_on binary_word all_binaries c.args.word.now c.loop-k.k Add low (sym (c.same_word.ensures ∙ ap (λ u. same_word c.args.word.now u) (c.binary_word.ensures ∙ ap binary_word c.binary_at-binary.ensures)) ∙ c.if-same_word.false)
-
-pub returns-then-same_word : goal.returns-then-same_word
-unfolding binaries
-returns-then-same_word c =
-    let low : c.loop-k.k < length all_binaries = omega arith in
-    ap Some c.binary_at-binary.ensures ∙ sym (c.loop-k.invariant ∙ find_here binary_word all_binaries c.args.word.now c.loop-k.k Add low (sym (c.same_word.ensures ∙ ap (λ u. same_word c.args.word.now u) (c.binary_word.ensures ∙ ap binary_word c.binary_at-binary.ensures)) ∙ c.if-same_word.true))
 
 pub returns : goal.returns
 unfolding binaries
-returns c = sym (c.loop-k.invariant ∙ find_none binary_word all_binaries c.args.word.now c.loop-k.k c.loop-k-test.false)
+returns c =
+    let found = find_from_yields_List (λ k. same_word c.args.word.now (binary_word k)) _ _ c.find.result c.find.ensures.ran (YieldsList-from_copied (YieldsList-from_slice binaries cc)) (λ x b q k. search (rules, tests)) in
+    sym (option_map_id c.find.result) ∙ (found ∙ first_is binary_word binaries c.args.word.now)

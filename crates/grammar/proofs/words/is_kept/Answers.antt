@@ -1,20 +1,20 @@
-use Rattle.std.proofs.Common.{◌<◌, [], length, sym, ap, ◌∙◌, arith}
-use Rattle.grammar.specs.Words.{itself, kept_words, same_word}
-use Rattle.grammar.specs.Tables.{all_kept}
-use Rattle.grammar.proofs.Sought.{some_here, some_on, some_none}
+use Rattle.std.proofs.Common.{◌≡◌, rules, Bor, List, [], ◌∷◌, map, ◌||◌, refl, ap, ◌∙◌}
+use borrow.Author.Tests.{tests}
+use Rattle.std.specs.List.{list_any}
+use Rattle.std.proofs.lemmas.Iterator.{YieldsList-from_slice}
+use Rattle.std.proofs.lemmas.Iterator.Search.{any_from_yields_List}
+use Rattle.grammar.specs.Words.{Word, same_word, is_some, itself, kept_words}
 use Rattle.grammar.proofs.words.is_kept.Goals as goal
 
-pub loop-k-preserved : goal.loop-k-preserved
-loop-k-preserved c =
-    let low : c.loop-k.k < length all_kept = omega arith in
-    c.loop-k.invariant ∙ some_on itself all_kept c.args.word.now c.loop-k.k [] low (sym (c.same_word.ensures ∙ ap (λ u. same_word c.args.word.now u) c.kept_at.ensures) ∙ c.if-same_word.false)
-
-pub returns-then-same_word : goal.returns-then-same_word
-unfolding kept_words
-returns-then-same_word c =
-    let low : c.loop-k.k < length all_kept = omega arith in
-    sym (c.loop-k.invariant ∙ some_here itself all_kept c.args.word.now c.loop-k.k [] low (sym (c.same_word.ensures ∙ ap (λ u. same_word c.args.word.now u) c.kept_at.ensures) ∙ c.if-same_word.true))
+-- the words behind the references of the table
+any_lent : (l : List (Bor Word)) (w : Word) → list_any (λ k. same_word w k.now) l ≡ is_some itself (map (λ k. k.now) l) w
+unfolding is_some
+any_lent [] w = refl
+any_lent (k ∷ l) w = ap (λ t. same_word w k.now || t) (any_lent l w)
 
 pub returns : goal.returns
 unfolding kept_words
-returns c = sym (c.loop-k.invariant ∙ some_none itself all_kept c.args.word.now c.loop-k.k c.loop-k-test.false)
+returns c =
+    let table : map (λ (k : Bor Word). k.now) c.iter.result.rest.now ≡ kept_words = simp c.iter.ensures.rest in
+    any_from_yields_List (λ (k : Bor Word). same_word c.args.word.now k.now) _ _ _ c.any.ensures.ran (YieldsList-from_slice c.iter.result.rest.now refl) (λ x b q k. search (rules, tests))
+    ∙ (any_lent c.iter.result.rest.now c.args.word.now ∙ ap (λ l. is_some itself l c.args.word.now) table)

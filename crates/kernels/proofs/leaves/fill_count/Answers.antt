@@ -51,16 +51,16 @@ nonzero_rem-index c = len_some c.args.shape c.args.many c.args.first (omega arit
 pub next_index-index-requires : goal.next_index-index-requires
 next_index-index-requires c =
     let some = len_some c.args.shape c.args.many c.args.first (omega arith) c.requires.spreads (omega arith) in
-    omega (arith, mod_below (c.args.first + c.loop-i.i) (get_or c.args.shape.lens (c.args.shape.rank - 1) 0) some)
+    omega (arith, mod_below (c.args.first + c.loop-x.x-index) (get_or c.args.shape.lens (c.args.shape.rank - 1) 0) some)
 
-pub loop-i-preserved : goal.loop-i-preserved
-loop-i-preserved c =
-    let i = c.loop-i.i in
+pub loop-x-preserved : goal.loop-x-preserved
+loop-x-preserved c =
+    let i = c.loop-x.x-index in
     let len = get_or c.args.shape.lens (c.args.shape.rank - 1) 0 in
-    let l : i < length c.loop-i.out = omega arith in (
-      c.next_index-index.ensures (c.args.first + i) c.loop-i.invariant.0 ∙ ap (λ n. n % len) (add_assoc c.args.first i 1),
-      set_below nan (λ k x. StandsFor x (binary64.of ((c.args.first + k) % len))) c.loop-i.out i c.whole_float-in-loop-i.result l c.loop-i.invariant.1
-          (subst (λ n. StandsFor c.whole_float-in-loop-i.result (binary64.of n)) c.loop-i.invariant.0 c.whole_float-in-loop-i.ensures),
+    let l : i < length c.loop-x.out = omega arith in (
+      c.next_index-index.ensures (c.args.first + i) c.loop-x.invariant.0 ∙ ap (λ n. n % len) (add_assoc c.args.first i 1),
+      set_below nan (λ k x. StandsFor x (binary64.of ((c.args.first + k) % len))) c.loop-x.out i c.whole_float-in-loop-x.result l c.loop-x.invariant.1
+          (subst (λ n. StandsFor c.whole_float-in-loop-x.result (binary64.of n)) c.loop-x.invariant.0 c.whole_float-in-loop-x.ensures),
     )
 
 pub returns : goal.returns
@@ -69,4 +69,4 @@ returns c =
     let some : 0 < s.rank = omega (arith, spreads_few c.requires.spreads, length-take s.rank s.lens) in
     stand_same
     (λ k l. ap (λ n. binary64.of n) (sym (number s (omega arith) some c.args.many (c.args.first + k) (omega arith) ∙ count_more c.args.many _ c.if-many-eq1.false)))
-    (record { each = λ k l. c.loop-i.invariant.1 k (omega arith) })
+    (record { each = λ k l. c.loop-x.invariant.1 k (omega arith) })

@@ -23,7 +23,7 @@ read_row-requires c =
     let long = length_part nan done count c.loop-done.out (omega arith) in
     let f : SFits w64 r.stride = search rules in
     record {
-      walk = subst (λ z. Walk v.source c.args.area.now c.args.bytes.now (length (take (done + count - done) (drop done c.loop-done.out)) ∷ []) (z ∷ []) r.from) (sym (to_z-of_z w64 r.stride f))
+      walk = subst (λ z. Walk v.source c.args.lent.area.now c.args.lent.bytes.now (length (take (done + count - done) (drop done c.loop-done.out)) ∷ []) (z ∷ []) r.from) (sym (to_z-of_z w64 r.stride f))
           (row_walk v (c.args.first + done) r (length (take (done + count - done) (drop done c.loop-done.out))) c.requires.good c.requires.there row (omega arith));
       some = omega arith;
     }
@@ -41,8 +41,8 @@ loop-done-preserved c =
     let few : done ≤ length out = omega arith in
     let long = length_part nan done count out (omega arith) in
     let same : length part ≡ count = omega arith in
-    let area = c.args.area.now in
-    let bytes = c.args.bytes.now in
+    let area = c.args.lent.area.now in
+    let bytes = c.args.lent.bytes.now in
     let new = put_mid done (done + count - done) out part in (
       subst (λ n. done + n ≤ length new) same (part_long nan done (done + count - done) out part few),
       subst (λ n. (k : ℕ) → k < done + n → StandsFor (at new k) (seen area bytes v (unflat (shape_of v.shape) (c.args.first + k)))) same

@@ -16,4 +16,4 @@ read_row-requires c =
 pub returns-then-is_packed : goal.returns-then-is_packed
 returns-then-is_packed c =
     let v = c.args.view.now in
-    stand_same (λ j l. row_seen c.args.area.now c.args.bytes.now v c.args.first _ j (packed_row v c.args.first (c.is_packed.ensures.0 c.if-is_packed.true) (omega arith)) (omega arith)) c.read_row.ensures
+    stand_same (λ j l. row_seen c.args.lent.area.now c.args.lent.bytes.now v c.args.first _ j (packed_row v c.args.first (c.is_packed.ensures.0 c.if-is_packed.true) (omega arith)) (omega arith)) c.read_row.ensures

@@ -8,8 +8,8 @@ overflow_add-at c = record { fits = omega (arith, lined_short c.requires) }
 pub overflow_add-at-in-Area : goal.overflow_add-at-in-Area
 overflow_add-at-in-Area c = record { fits = omega (arith, words_end c.requires c.in-Area.is) }
 
-pub offset_bounds-area-at : goal.offset_bounds-area-at
-offset_bounds-area-at c = let h = words_end c.requires c.in-Area.is in search rules
+pub offset_bounds-env-at : goal.offset_bounds-env-at
+offset_bounds-env-at c = let h = words_end c.requires c.in-Area.is in search rules
 
 pub slice_bounds-no_nans-end : goal.slice_bounds-no_nans-end
 slice_bounds-no_nans-end c = let h = words_end c.requires c.in-Area.is in search rules

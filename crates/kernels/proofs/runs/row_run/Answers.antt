@@ -31,5 +31,5 @@ pub returns : goal.returns
 returns c =
     let d = c.last_length-len.result in
     let axes = c.last_length-len.ensures in
-    subst (λ w. ViewRun c.args.area.now c.args.bytes.now c.args.view.now w c.args.first c.args.count c.packed_run.result) (sym axes)
-    (row_shift (take (c.args.shape.rank - 1) (shape_of c.args.shape)) d c.args.first (c.is_row.ensures c.if-not-is_row.false) (subst (λ w. c.args.first < size w) axes (omega arith)) (omega arith) c.packed_run.ensures)
+    subst (λ w. ViewRun c.args.env.now.lent.area.now c.args.env.now.lent.bytes.now c.args.view.now w c.args.first c.args.count c.packed_run.result) (sym axes)
+    (row_shift (take (c.args.env.now.shape.rank - 1) (shape_of c.args.env.now.shape)) d c.args.first (c.is_row.ensures c.if-not-is_row.false) (subst (λ w. c.args.first < size w) axes (omega arith)) (omega arith) c.packed_run.ensures)

@@ -13,8 +13,8 @@ unreachable-requires c = omega (arith, length_number_bytes c.write_block.new.out
 
 pub returns : goal.returns
 returns c =
-    let w = shape_of c.args.shape in
-    let ins = inputs_of c.args.bytes.now in
+    let w = shape_of c.args.env.now.shape in
+    let ins = inputs_of c.args.env.now.lent.bytes.now in
     record {
       list = c.write_block.new.out;
       long = omega arith;

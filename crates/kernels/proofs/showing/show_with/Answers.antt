@@ -14,7 +14,7 @@ cost_of-requires c = ready_tree c.requires.ready
 
 pub loop-done-init : goal.loop-done-init
 loop-done-init c =
-    (omega arith, omega arith, refl, record { shown = λ q. shown_none c.args.room.now c.args.index (tree_array (inputs_of c.args.bytes.now) q.names q.expr (shape_of c.args.shape)) }, omega arith)
+    (omega arith, omega arith, refl, record { shown = λ q. shown_none c.args.room.now c.args.index (tree_array (inputs_of c.args.env.now.lent.bytes.now) q.names q.expr (shape_of c.args.env.now.shape)) }, omega arith)
 
 pub show_block-requires : goal.show_block-requires
 show_block-requires c =
@@ -34,8 +34,8 @@ loop-done-preserved c =
     let many = c.min-many.result in
     let done = c.loop-done.done in
     let s = c.show_block.ensures in
-    let w = shape_of c.args.shape in
-    let ins = inputs_of c.args.bytes.now in
+    let w = shape_of c.args.env.now.shape in
+    let ins = inputs_of c.args.env.now.lent.bytes.now in
     let old = c.args.room.now in
     let new = c.show_block.new.room in
     let long = length-take-le (many - 0) c.loop-done.block (omega arith) in
@@ -44,7 +44,7 @@ loop-done-preserved c =
       omega (arith, length-append c.show_block.new.block (post_of 0 (many - 0) c.loop-done.block), length-drop (many - 0) c.loop-done.block),
       omega arith,
       omega (arith, length-append c.show_block.new.patterns (post_of 0 (many - 0) c.loop-done.patterns), length-drop (many - 0) c.loop-done.patterns),
-      subst (λ n. Shown c.args.words.now c.args.node c.args.names.now c.args.area.now c.args.bytes.now w c.args.index n old new) same
+      subst (λ n. Shown c.args.env.now.words.now c.args.node c.args.env.now.names.now c.args.env.now.lent.area.now c.args.env.now.lent.bytes.now w c.args.index n old new) same
           (record { shown = λ q. shown_more old c.loop-done.room new c.args.index done (tree_array ins q.names q.expr w) s.list (omega arith) (c.loop-done.invariant.3.shown q) s.bytes (s.each q) }),
       omega arith,
     )

@@ -8,7 +8,7 @@ invariant-loop-done l =
     (length l.block ≡ 256)
     × (4096 ≤ length l.spare)
     × (length l.patterns ≡ 256)
-    × Shown l.words l.node l.names l.area l.bytes (shape_of l.shape) l.index l.done l.initial.room l.room
+    × Shown l.env.words.now l.node l.env.names.now l.env.lent.area.now l.env.lent.bytes.now (shape_of l.env.shape) l.index l.done l.initial.room l.room
     × (l.done ≤ l.count)
 
 abbrev pub decreases-loop-done : goal.decreases-loop-done

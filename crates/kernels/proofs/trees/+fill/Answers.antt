@@ -134,7 +134,7 @@ fill-next-requires-in-Own-right t c =
 pub overflow_add-result-in_default-right : goal.overflow_add-result-in_default-right
 overflow_add-result-in_default-right t c =
     let q = (able_right c.in-Some.ensures _ c.in-Both.is c.fill-middle.ensures.skips c.requires.able).able.ready in
-    record { fits = omega (arith, expr_there c.args.words.now c.fill-middle.result q.expr q.rest q.enc, length_steps_in c.args.words.now) }
+    record { fits = omega (arith, expr_there c.args.env.now.words.now c.fill-middle.result q.expr q.rest q.enc, length_steps_in c.args.env.now.words.now) }
 
 pub find_run-right-requires-in_default-left : goal.find_run-right-requires-in_default-left
 find_run-right-requires-in_default-left t c =

@@ -3,4 +3,4 @@ use Rattle.program.specs.Words.{steps_in}
 use Rattle.kernels.proofs.trees.+fill.Given as goal
 
 abbrev pub decreases-fill : goal.decreases-fill
-decreases-fill l = length (steps_in l.words.now) - l.node
+decreases-fill l = length (steps_in l.env.now.words.now) - l.node

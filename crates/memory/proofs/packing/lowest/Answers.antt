@@ -1,30 +1,28 @@
-use Rattle.std.proofs.Common.{◌≡◌, ◌+◌, ◌<◌, length, get_or, sym, ap, ◌∙◌, subst₂, inl, inr, arith}
-use Rattle.kernels.specs.declared.slot.Slot.TheVariants.{Empty}
+use Rattle.std.proofs.Common.{◌≡◌, ℕ, ◌+◌, ◌<◌, ◌≤◌, length, get_or, sym, ap, ◌∙◌, subst, arith, rules, Option, Some, None, MatchOption}
 use Rattle.kernels.proofs.Feeding.{get_d_any}
 use Rattle.memory.specs.Spans.{high_of}
-use Rattle.memory.proofs.Finding.{Best, best_start, best_takes, best_keeps, best_found, best_none}
+use Rattle.memory.proofs.Finding.{Under, First, best_takes, best_keeps, best_told}
 use Rattle.memory.proofs.packing.lowest.Goals as goal
-use Rattle.memory.proofs.packing.lowest.Goals.{then-to-high+then-high-end, else-to-high, else-to-high-via-then-to-high+else-high-end, else-to-high-via-else-to-high}
-
-pub loop-k-init : goal.loop-k-init
-loop-k-init c = best_start c.args.names.now c.args.to
+use Rattle.memory.proofs.packing.lowest.Goals.{then-to-high+then-is_none_or, else-to-high, else-to-high-via-then-to-high+else-is_none_or, else-to-high-via-else-to-high}
 
 pub loop-k-preserved : goal.loop-k-preserved
 loop-k-preserved c =
     let t = c.args.names.now in
+    let to = c.args.to in
     let k = c.loop-k.k in
-    let there : k < length t = omega (arith, c.told-names) in
-    let is : c.high_of-high.result ≡ high_of (get_or t k Empty) = c.high_of-high.ensures ∙ ap high_of (get_d_any t k c.index-names-k.result Empty there) in
-    let takes = best_takes t c.args.to k c.loop-k.best c.loop-k.end c.high_of-high.result c.loop-k.invariant is c.loop-k-test.true in
-    let keeps = best_keeps t c.args.to k c.loop-k.best c.loop-k.end c.high_of-high.result c.loop-k.invariant is c.high_of-high.type_inv in
+    let x = c.high_of-high.result in
+    let there : k < length t = omega arith in
+    let is : x ≡ high_of (get_or t k None) = c.high_of-high.ensures ∙ ap high_of (get_d_any t k c.index-names-k.result None there) in
+    let takes = best_takes t to k x is c.loop-k.best c.loop-k.invariant in
+    let keeps = best_keeps t to k x is c.loop-k.best c.loop-k.invariant in
+    let Next = λ (b : Option (ℕ × ℕ)). MatchOption b (Under t to (k + 1)) (First t to (k + 1)) in
     elim c.if-to-high.branch [
-      | then-to-high+then-high-end w ↦ subst₂ (Best t c.args.to (k + 1)) (sym w.best-is) (sym w.end-is) (takes w.if-to-high.true w.if-high-end.true)
-      | else-to-high w ↦ subst₂ (Best t c.args.to (k + 1)) (sym w.best-is) (sym w.end-is)
-          (keeps (elim w.else-to-high.branch [ else-to-high-via-then-to-high+else-high-end v ↦ inr v.if-high-end.false | else-to-high-via-else-to-high v ↦ inl v.if-to-high.false ]))
+      | then-to-high+then-is_none_or w ↦ subst Next (sym w.best-is) (takes (λ p e. search rules) w.if-to-high.true)
+      | else-to-high w ↦ elim w.else-to-high.branch [
+        | else-to-high-via-then-to-high+else-is_none_or v ↦ subst Next (sym w.best-is) (keeps (λ l e. search rules) (λ l p e. search rules))
+        | else-to-high-via-else-to-high v ↦ subst Next (sym w.best-is) (keeps (λ l e. omega (arith, v.if-to-high.false)) (λ l p e. absurd (omega (arith, v.if-to-high.false))))
+      ]
     ]
 
-pub returns-then-best-lt64 : goal.returns-then-best-lt64
-returns-then-best-lt64 c = best_found c.args.names.now c.args.to c.loop-k.k c.loop-k.best c.loop-k.end c.loop-k.invariant c.told-names c.loop-k-test.false c.if-best-lt64.true
-
-pub returns-else-best-lt64 : goal.returns-else-best-lt64
-returns-else-best-lt64 c = best_none c.args.names.now c.args.to c.loop-k.k c.loop-k.best c.loop-k.end c.loop-k.invariant c.told-names c.loop-k-test.false c.if-best-lt64.false
+pub returns : goal.returns
+returns c = best_told c.args.names.now c.args.to c.loop-k.k (omega arith) (omega arith) c.loop-k.best c.map.result c.loop-k.invariant (λ e. search rules) (λ p e. search rules)

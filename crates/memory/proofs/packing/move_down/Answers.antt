@@ -1,5 +1,4 @@
-use Rattle.std.proofs.Common.{◌+◌, get_or, ap, ◌∙◌, arith}
-use Rattle.kernels.specs.declared.slot.Slot.TheVariants.{Empty}
+use Rattle.std.proofs.Common.{◌+◌, get_or, ap, ◌∙◌, arith, None}
 use Rattle.kernels.proofs.Feeding.{get_d_any}
 use Rattle.memory.specs.Spans.{low_of, high_of}
 use Rattle.memory.proofs.Moving.{Move, down, span, turn}
@@ -14,8 +13,8 @@ move c =
       neat = c.requires.neat;
       parted = c.requires.parted;
       lowest = c.requires.lowest;
-      low_is = c.low_of-low.ensures ∙ ap low_of (get_d_any t k c.index-names-k.result Empty there);
-      high_is = c.high_of-high.ensures ∙ ap high_of (get_d_any t k c.index-names-k-2.result Empty there);
+      low_is = c.low_of-low.ensures ∙ ap low_of (get_d_any t k c.index-names-k.result None there);
+      high_is = c.high_of-high.ensures ∙ ap high_of (get_d_any t k c.index-names-k-2.result None there);
       after = c.shift_holders.ensures;
       long = c.copy_within.ensures.len;
       words = λ i h. c.copy_within.ensures.by_index.0 (c.args.to + i) 0 (omega arith) (omega arith) ∙ ap (λ n. get_or c.args.area.now n 0) (omega arith);

@@ -1,34 +1,25 @@
-use Rattle.std.proofs.Common.{sym, refl, ap, ◌∙◌, subst, arith}
-use Rattle.kernels.specs.declared.slot.Slot.TheVariants.{Held}
+use Rattle.std.proofs.Common.{sym, refl, ap, ◌∙◌, subst, arith, Some}
 use Rattle.memory.specs.Spans.{low_of, high_of}
 use Rattle.memory.specs.Packing.{After, moved, stays}
 use Rattle.memory.proofs.Slotted.{empty_high, input_high, area_low, area_high}
 use Rattle.memory.proofs.Sliding.{slid}
 use Rattle.memory.proofs.packing.shift_slot.Goals as goal
-use Rattle.memory.proofs.packing.shift_slot.Goals.{else-view-low-via-then-view-low+else-view-high, else-view-low-via-else-view-low}
 
-pub returns-in-Empty : goal.returns-in-Empty
-returns-in-Empty c = stays (λ e f. omega (arith, ap high_of c.in-Empty.is, empty_high)) refl
+pub returns-in_err-view : goal.returns-in_err-view
+returns-in_err-view c = stays (λ e f. omega (arith, ap high_of c.in_err-view.was, empty_high)) (cc)
 
-pub returns-in-Input : goal.returns-in-Input
-returns-in-Input c = stays (λ e f. omega (arith, ap high_of c.in-Held.is, input_high c.in-Held.view _ c.in-Input.is)) (sym c.in-Held.is)
-
-pub returns-then-view-high : goal.returns-then-view-high
-returns-then-view-high c =
-    let v = c.in-Held.view in
+pub returns-in-Area : goal.returns-in-Area
+returns-in-Area c =
+    let v = c.in_ok-view.view in
     let r = c.shift_down.result in
-    subst (λ s. After c.args.low c.args.high c.args.to s (Held r)) (sym c.in-Held.is)
+    subst (λ s. After c.args.low c.args.high c.args.to s (Some r)) (sym c.in_ok-view.was)
     (moved (slid v r c.args.low c.args.high c.args.to c.in-Area.is c.if-view-low.true c.if-view-high.true c.shift_down.ensures.shifted c.shift_down.ensures.holds))
 
-pub returns-else-view-low : goal.returns-else-view-low
-returns-else-view-low c =
-    let v = c.in-Held.view in
-    let low_is = ap low_of c.in-Held.is ∙ area_low v c.in-Area.is in
-    let high_is = ap high_of c.in-Held.is ∙ area_high v c.in-Area.is in
-    stays
-    (λ e f.
-    elim c.else-view-low.branch [
-      | else-view-low-via-then-view-low+else-view-high w ↦ w.if-view-high.false (sym high_is ∙ f)
-      | else-view-low-via-else-view-low w ↦ w.if-view-low.false (sym low_is ∙ e)
-    ])
-    (sym c.in-Held.is)
+pub returns-in_default : goal.returns-in_default
+returns-in_default c = stays (λ e f. c.if-view-high.false (sym (ap high_of c.in_ok-view.was ∙ area_high c.in_ok-view.view c.in-Area.is) ∙ f)) refl
+
+pub returns-in_default-2 : goal.returns-in_default-2
+returns-in_default-2 c = stays (λ e f. c.if-view-low.false (sym (ap low_of c.in_ok-view.was ∙ area_low c.in_ok-view.view c.in-Area.is) ∙ e)) refl
+
+pub returns-in_default-3 : goal.returns-in_default-3
+returns-in_default-3 c = stays (λ e f. omega (arith, ap high_of c.in_ok-view.was, input_high c.in_ok-view.view _ c.in_default.is)) refl

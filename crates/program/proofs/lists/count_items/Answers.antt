@@ -1,25 +1,35 @@
-use Rattle.std.proofs.Common.{arith}
+use Rattle.std.proofs.Common.{rules, ap, ◌∙◌, inl, length, arith}
+use borrow.Author.Tests.{tests}
+use Rattle.std.specs.Option.{is_some}
+use Rattle.std.proofs.lemmas.List.Folds.{length-prefix_len}
+use Rattle.std.proofs.lemmas.Iterator.Consumers.{count_from_yields_List}
+use Rattle.std.proofs.lemmas.Iterator.Search.{YieldsList-from_take_while}
+use Rattle.program.specs.Standing.{steps_from}
+use Rattle.program.specs.Steps.{steps_left}
 use Rattle.program.specs.Leading.{item_in, items_at}
-use Rattle.program.proofs.Leadings.{count_more, count_all, count_past, item_in_item, item_in_other}
+use Rattle.program.proofs.Storing.{length_steps_in}
+use Rattle.program.proofs.Nodes.{length_from}
+use Rattle.program.proofs.Leadings.{prefix_leading, steps_yield}
 use Rattle.program.proofs.lists.count_items.Goals as goal
 
-pub returns-in_default-step : goal.returns-in_default-step
-unfolding items_at
-returns-in_default-step c =
-    record {
-      count = count_all item_in 0 c.args.words.now c.args.node c.loop-step.at c.loop-step.invariant.0 c.loop-step.invariant.1 c.in-Some.step c.in-Some.ensures (item_in_other c.in-Some.step c.in_default-step.not-Item);
-      fits = omega arith;
-    }
+pub count-requires-clause-fits : goal.count-requires-clause-fits
+count-requires-clause-fits c =
+    let ws = c.args.words.now in
+    let i = c.args.node in
+    let left = ap steps_left c.take_while-items.ensures.source in
+    inl (omega (arith, ap length left, length_from ws i, length_steps_in ws))
 
-pub loop-step-preserved : goal.loop-step-preserved
+pub returns-clause-count : goal.returns-clause-count
 unfolding items_at
-loop-step-preserved c =
-    (omega arith, count_more item_in 0 c.args.words.now c.args.node c.loop-step.at c.loop-step.invariant.0 c.loop-step.invariant.1 c.in-Some.step _ c.in-Some.ensures (item_in_item c.in-Some.step c.in-Item.field-0 c.in-Item.is), omega (arith, c.in-Some.ensures.words))
+returns-clause-count c =
+    let ws = c.args.words.now in
+    let i = c.args.node in
+    count_from_yields_List c.take_while-items.result c.count.result c.count.ensures.ran (YieldsList-from_take_while _ (λ s. is_some (item_in s)) (steps_yield _ (steps_from ws i) (ap steps_left c.take_while-items.ensures.source)) c.take_while-items.ensures.closure c.take_while-items.ensures.done (λ x b q k. search (rules, tests)))
+    ∙ (length-prefix_len (λ s. is_some (item_in s)) (steps_from ws i) ∙ prefix_leading item_in (steps_from ws i))
 
-pub returns : goal.returns
-unfolding items_at
-returns c =
-    record {
-      count = count_past item_in 0 c.args.words.now c.args.node c.loop-step.at c.loop-step.invariant.0 c.loop-step.invariant.1 c.in_default.ensures;
-      fits = omega arith;
-    }
+pub returns-clause-fits : goal.returns-clause-fits
+returns-clause-fits c =
+    let ws = c.args.words.now in
+    let i = c.args.node in
+    let left = ap steps_left c.take_while-items.ensures.source in
+    omega (arith, c.count.ensures.bound, ap length left, length_from ws i, length_steps_in ws)

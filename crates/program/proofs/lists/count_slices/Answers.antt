@@ -1,25 +1,35 @@
-use Rattle.std.proofs.Common.{arith}
-use Rattle.program.specs.Leading.{slice_in, slices_at, no_part}
-use Rattle.program.proofs.Leadings.{count_more, count_all, count_past, slice_in_slice, slice_in_other}
+use Rattle.std.proofs.Common.{rules, ap, ◌∙◌, inl, length, arith}
+use borrow.Author.Tests.{tests}
+use Rattle.std.specs.Option.{is_some}
+use Rattle.std.proofs.lemmas.List.Folds.{length-prefix_len}
+use Rattle.std.proofs.lemmas.Iterator.Consumers.{count_from_yields_List}
+use Rattle.std.proofs.lemmas.Iterator.Search.{YieldsList-from_take_while}
+use Rattle.program.specs.Standing.{steps_from}
+use Rattle.program.specs.Steps.{steps_left}
+use Rattle.program.specs.Leading.{slice_in, slices_at}
+use Rattle.program.proofs.Storing.{length_steps_in}
+use Rattle.program.proofs.Nodes.{length_from}
+use Rattle.program.proofs.Leadings.{prefix_leading, steps_yield}
 use Rattle.program.proofs.lists.count_slices.Goals as goal
 
-pub returns-in_default-step : goal.returns-in_default-step
-unfolding slices_at
-returns-in_default-step c =
-    record {
-      count = count_all slice_in no_part c.args.words.now c.args.node c.loop-step.next c.loop-step.invariant.0 c.loop-step.invariant.1 c.in-Some.step c.in-Some.ensures (slice_in_other c.in-Some.step c.in_default-step.not-Slice);
-      fits = omega arith;
-    }
+pub count-requires-clause-fits : goal.count-requires-clause-fits
+count-requires-clause-fits c =
+    let ws = c.args.words.now in
+    let i = c.args.node in
+    let left = ap steps_left c.take_while-slices.ensures.source in
+    inl (omega (arith, ap length left, length_from ws i, length_steps_in ws))
 
-pub loop-step-preserved : goal.loop-step-preserved
+pub returns-clause-count : goal.returns-clause-count
 unfolding slices_at
-loop-step-preserved c =
-    (omega arith, count_more slice_in no_part c.args.words.now c.args.node c.loop-step.next c.loop-step.invariant.0 c.loop-step.invariant.1 c.in-Some.step _ c.in-Some.ensures (slice_in_slice c.in-Some.step (record { from = c.in-Slice.field-0; backward = c.in-Slice.field-1; step = c.in-Slice.field-2; many = c.in-Slice.field-3 }) c.in-Slice.is), omega (arith, c.in-Some.ensures.words))
+returns-clause-count c =
+    let ws = c.args.words.now in
+    let i = c.args.node in
+    count_from_yields_List c.take_while-slices.result c.count.result c.count.ensures.ran (YieldsList-from_take_while _ (λ s. is_some (slice_in s)) (steps_yield _ (steps_from ws i) (ap steps_left c.take_while-slices.ensures.source)) c.take_while-slices.ensures.closure c.take_while-slices.ensures.done (λ x b q k. search (rules, tests)))
+    ∙ (length-prefix_len (λ s. is_some (slice_in s)) (steps_from ws i) ∙ prefix_leading slice_in (steps_from ws i))
 
-pub returns : goal.returns
-unfolding slices_at
-returns c =
-    record {
-      count = count_past slice_in no_part c.args.words.now c.args.node c.loop-step.next c.loop-step.invariant.0 c.loop-step.invariant.1 c.in_default.ensures;
-      fits = omega arith;
-    }
+pub returns-clause-fits : goal.returns-clause-fits
+returns-clause-fits c =
+    let ws = c.args.words.now in
+    let i = c.args.node in
+    let left = ap steps_left c.take_while-slices.ensures.source in
+    omega (arith, c.count.ensures.bound, ap length left, length_from ws i, length_steps_in ws)

@@ -3,24 +3,32 @@ use Rattle.program.specs.Standing.{steps_from}
 use Rattle.program.proofs.Behinds.{behind_step, behind_past, behind_none, awaits_few}
 use Rattle.program.proofs.words.find_behind.Goals as goal
 
-pub returns-in_default : goal.returns-in_default
-returns-in_default c =
-    c.loop-wanted.invariant.0 ∙ behind_past c.args.words.now c.loop-wanted.at c.loop-wanted.wanted (omega arith) c.in_default.ensures
+pub returns-in_err-next : goal.returns-in_err-next
+returns-in_err-next c =
+    let past = rw c.loop-wanted.invariant.same_words at c.in_err-next.ensures.steps.0 in
+    rw c.from_residual.ensures
+    (c.loop-wanted.invariant.behind_same ∙ behind_past c.args.words.now c.loop-wanted.steps.node c.loop-wanted.wanted (omega arith) past)
 
 pub loop-wanted-preserved : goal.loop-wanted-preserved
 loop-wanted-preserved c =
-    let at = c.in-Some.ensures in
-    let few = awaits_few c.in-Some.step in (
-      c.loop-wanted.invariant.0 ∙ behind_step c.args.words.now c.loop-wanted.at c.in-Some.step c.loop-wanted.wanted _ at (omega arith) (ap (λ n. c.loop-wanted.wanted - 1 + n) c.awaited.ensures),
-      omega (arith, c.awaited.ensures),
-      inr (omega arith, omega arith),
-    )
+    let ws = c.args.words.now in
+    let step = c.in_ok-next.field-0 in
+    let (found, same, further) = c.in_ok-next.ensures.steps in
+    let at = rw c.loop-wanted.invariant.same_words at found in
+    let few = awaits_few step in
+    record {
+      same_words = ap (λ w. w.now) same ∙ c.loop-wanted.invariant.same_words;
+      behind_same =
+          rw further (c.loop-wanted.invariant.behind_same ∙ behind_step ws c.loop-wanted.steps.node step c.loop-wanted.wanted _ at (omega arith) (ap (λ n. c.loop-wanted.wanted - 1 + n) c.awaited.ensures));
+      few_wanted = omega (arith, c.awaited.ensures, further);
+      within = inr (omega (arith, further, c.loop-wanted.invariant.within), omega (arith, further, at.there));
+    }
 
 pub returns : goal.returns
 returns c =
     let none : c.loop-wanted.wanted ≡ 0 = omega arith in
     record {
-      further = omega (arith, c.loop-wanted.invariant.2);
-      within = omega (arith, c.loop-wanted.invariant.2);
-      is = c.loop-wanted.invariant.0 ∙ behind_none (steps_from c.args.words.now c.loop-wanted.at) c.loop-wanted.wanted none;
+      further = omega (arith, c.loop-wanted.invariant.within);
+      within = omega (arith, c.loop-wanted.invariant.within);
+      is = c.loop-wanted.invariant.behind_same ∙ behind_none (steps_from c.args.words.now c.loop-wanted.steps.node) c.loop-wanted.wanted none;
     }

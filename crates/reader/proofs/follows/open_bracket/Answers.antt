@@ -1,6 +1,7 @@
+use Rattle.std.proofs.Common.{refl}
 use Rattle.grammar.specs.Moves.{operands, bracket}
 use Rattle.reader.proofs.follows.open_bracket.Goals as goal
 
 pub returns : goal.returns
 unfolding operands bracket
-returns c = c.six.ensures
+returns c = refl

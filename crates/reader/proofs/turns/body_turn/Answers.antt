@@ -3,7 +3,6 @@ use Rattle.grammar.specs.Letters.{closes}
 use Rattle.program.specs.declared.step.Step.{Step}
 use Rattle.grammar.specs.Moves.{moves, when, spelled, move}
 use Rattle.std.proofs.lemmas.Bool.{ne_eqb}
-use Rattle.reader.proofs.Turnings.{move_by}
 use Rattle.reader.proofs.turns.body_turn.Goals as goal
 
 pub returns-in-Some : goal.returns-in-Some
@@ -16,4 +15,4 @@ returns-then-b-ne101 c t e ns w v = sym (ap (λ x. when x (move closes (Step.End
 
 pub returns : goal.returns
 unfolding moves
-returns c t e ns w v = move_by closes (Step.End ∷ []) [] 0 c.two.ensures ∙ (sym (ap (λ x. when (eqb x 101) (move closes (Step.End ∷ []) (spelled (codes "nd") []) [] 0)) c.if-b-ne101.false) ∙ c.in_default.ensures t e (when (eqb c.args.b 101) (move closes (Step.End ∷ []) (spelled (codes "nd") []) [] 0)))
+returns c t e ns w v = (sym (ap (λ x. when (eqb x 101) (move closes (Step.End ∷ []) (spelled (codes "nd") []) [] 0)) c.if-b-ne101.false) ∙ c.in_default.ensures t e (when (eqb c.args.b 101) (move closes (Step.End ∷ []) (spelled (codes "nd") []) [] 0)))

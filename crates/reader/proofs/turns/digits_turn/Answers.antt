@@ -1,6 +1,5 @@
-use Rattle.std.proofs.Common.{◌+◌, ◌-◌, ◌*◌, [], sym, ◌∙◌, arith}
-use Rattle.grammar.specs.Letters.{inside}
-use Rattle.reader.proofs.Turnings.{move_by, digit_low, digits_other, digits_zero, digits_large, digits_more}
+use Rattle.std.proofs.Common.{sym, arith}
+use Rattle.reader.proofs.Turnings.{digit_low, digits_other, digits_zero, digits_large, digits_more}
 use Rattle.reader.proofs.turns.digits_turn.Goals as goal
 
 pub overflow_sub-more : goal.overflow_sub-more
@@ -16,4 +15,4 @@ pub returns-then-more-ge4294967296 : goal.returns-then-more-ge4294967296
 returns-then-more-ge4294967296 c t e ns w = digits_large ns w c.args.number c.args.value c.args.b c.if-more-ge4294967296.true
 
 pub returns : goal.returns
-returns c t e ns w = move_by inside [] [] (c.args.value * 10 + (c.args.b - 48)) c.one.ensures ∙ digits_more ns w c.args.number c.args.value c.args.b c.if-not-is_digit.ensures (omega arith) (omega arith)
+returns c t e ns w = digits_more ns w c.args.number c.args.value c.args.b c.if-not-is_digit.ensures (omega arith) (omega arith)

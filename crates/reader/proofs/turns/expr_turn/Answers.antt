@@ -5,12 +5,12 @@ use Rattle.semantics.specs.Shapes.{pick}
 use Rattle.grammar.specs.Moves.{when, move, moves, viable}
 use Rattle.std.proofs.lemmas.Bool.{ne_eqb}
 use Rattle.reader.specs.Names.{part, spellings}
-use Rattle.reader.proofs.Turnings.{move_by, part_one}
+use Rattle.reader.proofs.Turnings.{part_one}
 use Rattle.reader.proofs.turns.expr_turn.Goals as goal
 
 pub returns-then-text-at-eq35 : goal.returns-then-text-at-eq35
 unfolding moves
-returns-then-text-at-eq35 c w v = move_by begins [] [] 0 c.one.ensures ∙ sym (ap (λ x. moves (spellings c.args.text.now c.args.names.now) Symbol.Expr w v x) c.if-text-at-eq35.true)
+returns-then-text-at-eq35 c w v = sym (ap (λ x. moves (spellings c.args.text.now c.args.names.now) Symbol.Expr w v x) c.if-text-at-eq35.true)
 
 pub returns : goal.returns
 unfolding moves

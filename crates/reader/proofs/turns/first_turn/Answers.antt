@@ -9,11 +9,11 @@ use Rattle.reader.proofs.turns.first_turn.Goals as goal
 
 pub returns-then-b-eq93 : goal.returns-then-b-eq93
 unfolding moves
-returns-then-b-eq93 c t e ns w v = c.push_when.ensures t e ∙ (ap push c.none.ensures ∙ sym (ap (λ x. moves ns (Symbol.First c.args.kind) w v x) c.if-b-eq93.true))
+returns-then-b-eq93 c t e ns w v = c.push_when.ensures t e ∙ sym (ap (λ x. moves ns (Symbol.First c.args.kind) w v x) c.if-b-eq93.true)
 
 pub returns : goal.returns
 unfolding moves
 returns c t e ns w v =
     c.digit_turn.ensures t e
-    ∙ (ap (λ s. when (is_digit c.args.b) (move begins [] s [] (c.args.b - 48))) (c.two.ensures ∙ ap (λ p. Symbol.Digits p ∷ Symbol.More c.args.kind ∷ []) c.item_number.ensures)
+    ∙ (ap (λ s. when (is_digit c.args.b) (move begins [] s [] (c.args.b - 48))) (ap (λ p. Symbol.Digits p ∷ Symbol.More c.args.kind ∷ []) c.item_number.ensures)
     ∙ sym (ap (λ x. pick x (push []) (digit_move begins (item_number c.args.kind) (Symbol.More c.args.kind ∷ []) c.args.b)) (ne_eqb c.args.b 93 c.if-b-eq93.false)))

@@ -1,4 +1,4 @@
-use Rattle.std.proofs.Common.{◌+◌, ◌-◌, eqb, [], ◌∷◌, ◌++◌, get_or, sym, ap, ◌∙◌}
+use Rattle.std.proofs.Common.{refl, ◌+◌, ◌-◌, eqb, [], ◌∷◌, ◌++◌, get_or, sym, ap, ◌∙◌}
 use Rattle.grammar.specs.Letters.{inside, begins}
 use Rattle.grammar.specs.declared.symbol.Symbol.{Symbol}
 use Rattle.grammar.specs.Words.{is_digit, begins_some, binary_word, binaries}
@@ -16,7 +16,7 @@ returns-in-Body c = c.body_turn.ensures c.args.text.now (c.args.at + 1) (spellin
 
 pub returns-in-Byte : goal.returns-in-Byte
 unfolding moves
-returns-in-Byte c = c.push_when.ensures c.args.text.now (c.args.at + 1) ∙ (ap (λ s. when (eqb (get_or c.args.text.now c.args.at 0) c.in-Byte.c) (push s)) c.none.ensures ∙ sym (ap (λ s. moves (spellings c.args.text.now c.args.names.now) s (part c.args.text.now c.args.from c.args.at) c.args.value (get_or c.args.text.now c.args.at 0)) c.in-Byte.is))
+returns-in-Byte c = c.push_when.ensures c.args.text.now (c.args.at + 1) ∙ (ap (λ s. when (eqb (get_or c.args.text.now c.args.at 0) c.in-Byte.c) (push s)) refl ∙ sym (ap (λ s. moves (spellings c.args.text.now c.args.names.now) s (part c.args.text.now c.args.from c.args.at) c.args.value (get_or c.args.text.now c.args.at 0)) c.in-Byte.is))
 
 pub returns-in-Target : goal.returns-in-Target
 unfolding moves
@@ -47,7 +47,7 @@ returns-in-Binary c =
 
 pub returns-in-Number : goal.returns-in-Number
 unfolding moves
-returns-in-Number c = c.digit_turn.ensures c.args.text.now (c.args.at + 1) ∙ (ap (λ s. when (is_digit (get_or c.args.text.now c.args.at 0)) (move inside [] s [] ((get_or c.args.text.now c.args.at 0) - 48))) c.one.ensures ∙ sym (ap (λ s. moves (spellings c.args.text.now c.args.names.now) s (part c.args.text.now c.args.from c.args.at) c.args.value (get_or c.args.text.now c.args.at 0)) c.in-Number.is))
+returns-in-Number c = c.digit_turn.ensures c.args.text.now (c.args.at + 1) ∙ (ap (λ s. when (is_digit (get_or c.args.text.now c.args.at 0)) (move inside [] s [] ((get_or c.args.text.now c.args.at 0) - 48))) refl ∙ sym (ap (λ s. moves (spellings c.args.text.now c.args.names.now) s (part c.args.text.now c.args.from c.args.at) c.args.value (get_or c.args.text.now c.args.at 0)) c.in-Number.is))
 
 pub returns-in-Digits : goal.returns-in-Digits
 returns-in-Digits c = c.digits_turn.ensures c.args.text.now (c.args.at + 1) (spellings c.args.text.now c.args.names.now) (part c.args.text.now c.args.from c.args.at) ∙ sym (ap (λ s. moves (spellings c.args.text.now c.args.names.now) s (part c.args.text.now c.args.from c.args.at) c.args.value (get_or c.args.text.now c.args.at 0)) c.in-Digits.is)
@@ -67,7 +67,7 @@ returns-in-More c = c.more_turn.ensures c.args.text.now (c.args.at + 1) (spellin
 
 pub returns-in-Item : goal.returns-in-Item
 unfolding moves
-returns-in-Item c = c.digit_turn-in-Item.ensures c.args.text.now (c.args.at + 1) ∙ (ap (λ s. when (is_digit (get_or c.args.text.now c.args.at 0)) (move begins [] s [] ((get_or c.args.text.now c.args.at 0) - 48))) (c.one-in-Item.ensures ∙ ap (λ p. Symbol.Digits p ∷ []) c.item_number.ensures) ∙ sym (ap (λ s. moves (spellings c.args.text.now c.args.names.now) s (part c.args.text.now c.args.from c.args.at) c.args.value (get_or c.args.text.now c.args.at 0)) c.in-Item.is))
+returns-in-Item c = c.digit_turn-in-Item.ensures c.args.text.now (c.args.at + 1) ∙ (ap (λ s. when (is_digit (get_or c.args.text.now c.args.at 0)) (move begins [] s [] ((get_or c.args.text.now c.args.at 0) - 48))) (ap (λ p. Symbol.Digits p ∷ []) c.item_number.ensures) ∙ sym (ap (λ s. moves (spellings c.args.text.now c.args.names.now) s (part c.args.text.now c.args.from c.args.at) c.args.value (get_or c.args.text.now c.args.at 0)) c.in-Item.is))
 
 pub returns-in-Step : goal.returns-in-Step
 returns-in-Step c = c.step_turn.ensures c.args.text.now (c.args.at + 1) (spellings c.args.text.now c.args.names.now) (part c.args.text.now c.args.from c.args.at) c.args.value ∙ sym (ap (λ s. moves (spellings c.args.text.now c.args.names.now) s (part c.args.text.now c.args.from c.args.at) c.args.value (get_or c.args.text.now c.args.at 0)) c.in-Step.is)

@@ -1,17 +1,17 @@
-use Rattle.std.proofs.Common.{vec_items}
-use Rattle.reference.proofs.Bracketed.{reading_no_items, reading_item, read_items, read_all_items}
+use Rattle.std.proofs.Common.{◌≡◌, vec_items, ap, ◌∙◌, rules}
+use Rattle.std.proofs.lemmas.Iterator.{items_from_collect}
+use Rattle.std.proofs.lemmas.Result.{IfOk-weaker}
+use Rattle.program.specs.Standing.{steps_from}
+use Rattle.program.specs.Steps.{steps_left}
+use Rattle.program.specs.Leading.{item_in, leading}
+use Rattle.reference.specs.Brackets.{ReadsItems}
+use Rattle.reference.proofs.Leading.{leading_read, items_read, same_option}
 use Rattle.reference.proofs.brackets.read_items.Goals as goal
 
-pub loop-step-init : goal.loop-step-init
-loop-step-init c = reading_no_items _ _ _ c.new-list.ensures.items
-
-pub returns-in_default-step : goal.returns-in_default-step
-returns-in_default-step c =
-    read_items c.args.words.now c.args.node c.loop-step.at c.in-Some.step c.in-Some.ensures (vec_items c.loop-step.list) c.in_default-step.not-Item c.loop-step.invariant
-
-pub loop-step-preserved : goal.loop-step-preserved
-loop-step-preserved c =
-    reading_item c.args.words.now c.args.node c.loop-step.at c.in-Some.step c.in-Some.ensures (vec_items c.loop-step.list) (vec_items c.push.new.self) c.in-Item.is c.in_ok-push-in-Item.ensures.items c.loop-step.invariant
-
 pub returns : goal.returns
-returns c = read_all_items c.args.words.now c.args.node c.loop-step.at (vec_items c.loop-step.list) c.in_default.ensures c.loop-step.invariant
+returns c =
+    let ws = c.args.words.now in
+    let i = c.args.node in
+    let source = ap steps_left c.map_while-items.ensures.source in
+    IfOk-weaker c.collect.result (λ v. vec_items v ≡ leading item_in (steps_from ws i)) (λ v. ReadsItems ws i (vec_items v)) (λ v e. items_read ws i (vec_items v) e)
+    (items_from_collect _ c.collect.ensures.ran (leading_read _ item_in (λ x. x) (λ p x r q k. same_option r ∙ search rules) c.map_while-items.result (steps_from ws i) source))

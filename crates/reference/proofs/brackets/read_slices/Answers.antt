@@ -1,21 +1,18 @@
-use Rattle.std.proofs.Common.{[], ◌∷◌, vec_items, ap, ◌∙◌}
-use mathlib.Core.List.{map-append}
-use Rattle.reference.specs.declared.slice.Slice.{Slice}
-use Rattle.reference.specs.PartsOf.{part_of, parts_of}
-use Rattle.reference.proofs.Bracketed.{reading_no_slices, reading_slice, read_slices, read_all_slices}
+use Rattle.std.proofs.Common.{◌≡◌, map, vec_items, ap, rules}
+use Rattle.std.proofs.lemmas.Iterator.Consumers.{map_from_collect}
+use Rattle.std.proofs.lemmas.Result.{IfOk-weaker}
+use Rattle.semantics.specs.Slices.{part_of, parts_of}
+use Rattle.program.specs.Standing.{steps_from}
+use Rattle.program.specs.Steps.{steps_left}
+use Rattle.program.specs.Leading.{slice_in, leading}
+use Rattle.reference.specs.Brackets.{ReadsSlices}
+use Rattle.reference.proofs.Leading.{leading_read, slices_read}
 use Rattle.reference.proofs.brackets.read_slices.Goals as goal
 
-pub loop-found-init : goal.loop-found-init
-loop-found-init c = reading_no_slices _ _ _ (ap parts_of c.new-list.ensures.items)
-
-pub returns-in_default-found : goal.returns-in_default-found
-returns-in_default-found c =
-    read_slices c.args.words.now c.args.node c.loop-found.at c.in-Some.found c.in-Some.ensures (parts_of (vec_items c.loop-found.list)) c.in_default-found.not-Slice c.loop-found.invariant
-
-pub loop-found-preserved : goal.loop-found-preserved
-loop-found-preserved c =
-    let s : Slice = record { from = c.in-Slice.from; backward = c.in-Slice.backward; step = c.in-Slice.step; many = c.in-Slice.many } in
-    reading_slice c.args.words.now c.args.node c.loop-found.at c.in-Some.found c.in-Some.ensures {p = part_of s} (parts_of (vec_items c.loop-found.list)) (parts_of (vec_items c.push.new.self)) c.in-Slice.is (ap parts_of c.in_ok-push-in-Slice.ensures.items ∙ map-append part_of (vec_items c.loop-found.list) (s ∷ [])) c.loop-found.invariant
-
 pub returns : goal.returns
-returns c = read_all_slices c.args.words.now c.args.node c.loop-found.at (parts_of (vec_items c.loop-found.list)) c.in_default.ensures c.loop-found.invariant
+returns c =
+    let ws = c.args.words.now in
+    let i = c.args.node in
+    let source = ap steps_left c.map_while-slices.ensures.source in
+    IfOk-weaker c.collect.result (λ v. map part_of (vec_items v) ≡ leading slice_in (steps_from ws i)) (λ v. ReadsSlices ws i (parts_of (vec_items v))) (λ v e. slices_read ws i (parts_of (vec_items v)) e)
+    (map_from_collect _ c.collect.ensures.ran (leading_read _ slice_in part_of (λ p x r q k. search rules) c.map_while-slices.result (steps_from ws i) source))

@@ -1,6 +1,6 @@
 use Rattle.std.proofs.Common.{take}
 use Rattle.semantics.specs.Broadcast.{narrow}
-use Rattle.reference.proofs.Filling.{Filled}
+use Rattle.encoding.proofs.Filling.{Filled}
 use Rattle.reference.proofs.broadcast.narrow_place.Given as goal
 
 abbrev pub invariant-loop-k : goal.invariant-loop-k

@@ -17,10 +17,10 @@ tabulate-requires c =
     let t = shape_of c.args.right.now.shape in
     let wider = c.in-Some.ensures in
     record {
-      small = omega (arith, ap size wider.shaped, c.requires.small);
-      sourced = λ is h. let i = subst (λ w. In w is) wider.shaped h in (reaches (spreads_left s t) i, reaches (spreads_right s t c.requires.fits) i);
+      small = omega (arith, ap size wider.1, c.requires.small);
+      sourced = λ is h. let i = subst (λ w. In w is) wider.1 h in (reaches (spreads_left s t) i, reaches (spreads_right s t c.requires.fits) i);
     }
 
 pub returns : goal.returns
 unfolding both_array
-returns c = made_shaped c.tabulate.result _ c.in-Some.ensures.shaped c.tabulate.ensures
+returns c = made_shaped c.tabulate.result _ c.in-Some.ensures.1 c.tabulate.ensures

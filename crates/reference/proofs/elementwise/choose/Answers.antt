@@ -14,7 +14,7 @@ unreachable-requires c = false≢true (sym c.in_default.ensures ∙ c.requires.f
 
 pub unreachable-requires-in_default-broadcast : goal.unreachable-requires-in_default-broadcast
 unreachable-requires-in_default-broadcast c =
-    let two = c.in-Some.ensures.shaped in
+    let two = c.in-Some.ensures.1 in
     false≢true (sym c.in_default-broadcast.ensures ∙ (ap (λ s. fit s (shape_of c.args.other.now.shape)) two ∙ c.requires.fits_all))
 
 pub tabulate-requires : goal.tabulate-requires
@@ -22,7 +22,7 @@ tabulate-requires c =
     let s = shape_of c.args.test.now.shape in
     let t = shape_of c.args.yes.now.shape in
     let u = shape_of c.args.other.now.shape in
-    let e = c.in-Some-broadcast.ensures.shaped ∙ ap (λ w. wide w u) c.in-Some.ensures.shaped in
+    let e = c.in-Some-broadcast.ensures.1 ∙ ap (λ w. wide w u) c.in-Some.ensures.1 in
     record {
       small = omega (arith, ap size e, c.requires.small);
       sourced = λ is h.
@@ -34,5 +34,5 @@ pub returns : goal.returns
 unfolding choose_array
 returns c =
     let u = shape_of c.args.other.now.shape in
-    let e = c.in-Some-broadcast.ensures.shaped ∙ ap (λ w. wide w u) c.in-Some.ensures.shaped in
+    let e = c.in-Some-broadcast.ensures.1 ∙ ap (λ w. wide w u) c.in-Some.ensures.1 in
     made_shaped c.tabulate.result _ e c.tabulate.ensures

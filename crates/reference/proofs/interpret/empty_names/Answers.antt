@@ -1,20 +1,13 @@
-use Rattle.std.proofs.Common.{◌≡◌, [], ◌∷◌, ◌++◌, map, vec_items, ap, ◌∙◌, arith}
-use Rattle.std.proofs.lemmas.List.{map_push}
-use Rattle.semantics.specs.Values.{none}
+use Rattle.std.proofs.Common.{◌≡◌, ◌++◌, map, take, length, vec_items, ap, ◌∙◌, rules, arith}
 use Rattle.semantics.specs.Programs.{nothing}
-use Rattle.reference.specs.declared.names.Cell.TheVariants.{Empty}
 use Rattle.reference.specs.CellsOf.{cell_of}
-use Rattle.reference.proofs.Beginning.{nothing_push}
+use Rattle.reference.proofs.Beginning.{nothing_made}
 use Rattle.reference.proofs.interpret.empty_names.Goals as goal
 
-pub loop-k-init : goal.loop-k-init
-unfolding nothing
-loop-k-init c = ap (map cell_of) c.new-names.ensures.items
-
-pub loop-k-preserved : goal.loop-k-preserved
-loop-k-preserved c =
-    ap (map cell_of) c.in_ok-push.ensures.items
-    ∙ (map_push cell_of (vec_items c.loop-k.names) Empty ∙ (ap (λ l. l ++ none ∷ []) c.loop-k.invariant ∙ nothing_push c.loop-k.k))
-
 pub returns : goal.returns
-returns c = let all : c.loop-k.k ≡ 64 = omega arith in c.loop-k.invariant ∙ ap nothing all
+returns c =
+    let e = c.in_ok-resize_with.ensures.items in
+    let cells = nothing_made _ (λ p y q k. search rules) e.0 _ e.1 e.3 in
+    let whole : vec_items c.resize_with.new.self ≡ e.0 = e.2 ∙ ap (λ l. take 64 l ++ e.0) c.new-names.ensures.items in
+    let many : length e.0 ≡ 64 = let ok = c.resize_with.new.self.ok in omega (arith, ap length whole, ok, c.in_ok-resize_with.ensures.len) in
+    ap (map cell_of) whole ∙ (cells ∙ ap nothing many)

@@ -3,7 +3,7 @@ use Rattle.std.proofs.lemmas.List.{length-take-le, get_or-take}
 use Rattle.semantics.specs.Orders.{where_in}
 use Rattle.semantics.proofs.Orders.{ordered, length_turned_back, get_d_turned_back}
 use Rattle.reference.specs.IndicesOf.{indices_of}
-use Rattle.reference.proofs.Filling.{filled_none, filled_more, filled_all}
+use Rattle.encoding.proofs.Filling.{filled_none, filled_more, filled_all}
 use Rattle.reference.proofs.orders.untransposed_place.Goals as goal
 
 pub offset_bounds-place-find_axis : goal.offset_bounds-place-find_axis

@@ -1,6 +1,6 @@
 use Rattle.semantics.specs.Orders.{turned_back}
 use Rattle.reference.specs.IndicesOf.{indices_of}
-use Rattle.reference.proofs.Filling.{Filled}
+use Rattle.encoding.proofs.Filling.{Filled}
 use Rattle.reference.proofs.orders.untransposed_place.Given as goal
 
 abbrev pub invariant-loop-k : goal.invariant-loop-k

@@ -3,5 +3,5 @@ use Rattle.std.specs.List.{flat_map}
 use Rattle.encoding.specs.Words.{bytes4}
 use Rattle.reference.proofs.output.encode_head.Given as goal
 
-abbrev pub invariant-loop-k : goal.invariant-loop-k
-invariant-loop-k l = vec_items l.out ≡ l.shape.rank ∷ flat_map bytes4 (take l.k l.shape.lens)
+abbrev pub invariant-loop-len : goal.invariant-loop-len
+invariant-loop-len l = vec_items l.out ≡ l.fn.shape.rank ∷ flat_map bytes4 (take l.len-index l.len-items)

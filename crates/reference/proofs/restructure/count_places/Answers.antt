@@ -4,18 +4,18 @@ use Rattle.semantics.specs.Shapes.{size}
 use Rattle.encoding.proofs.Sizes.{size_more, min_mul_capped}
 use Rattle.reference.proofs.restructure.count_places.Goals as goal
 
-pub loop-k-init : goal.loop-k-init
+pub loop-len-init : goal.loop-len-init
 unfolding size
-loop-k-init c = refl
+loop-len-init c = refl
 
-pub loop-k-preserved : goal.loop-k-preserved
-loop-k-preserved c =
-    let inside : c.loop-k.k < length c.args.lens.now = omega arith in
-    let more = size_more c.args.lens.now c.loop-k.k inside in
-    let capped = min_mul_capped (size (take c.loop-k.k c.args.lens.now)) c.from.result 18446744073709551615 in
+pub loop-len-preserved : goal.loop-len-preserved
+loop-len-preserved c =
+    let inside : c.loop-len.len-index < length c.args.lens.now = omega arith in
+    let more = size_more c.args.lens.now c.loop-len.len-index inside in
+    let capped = min_mul_capped (size (take c.loop-len.len-index c.args.lens.now)) c.from.result 18446744073709551615 in
     cc
 
 pub returns : goal.returns
 returns c =
-    let all = take_all c.loop-k.k c.args.lens.now c.loop-k-test.false in
-    c.loop-k.invariant ∙ ap (λ xs. min (size xs) (2 ^ 64 - 1)) all
+    let all = take_all c.loop-len.len-index c.args.lens.now c.loop-len-test.false in
+    c.loop-len.invariant ∙ ap (λ xs. min (size xs) (2 ^ 64 - 1)) all

@@ -2,5 +2,5 @@ use Rattle.std.proofs.Common.{◌≡◌, ◌-◌, ◌^◌, min, take}
 use Rattle.semantics.specs.Shapes.{size}
 use Rattle.reference.proofs.restructure.count_places.Given as goal
 
-abbrev pub invariant-loop-k : goal.invariant-loop-k
-invariant-loop-k l = l.places ≡ min (size (take l.k l.lens)) (2 ^ 64 - 1)
+abbrev pub invariant-loop-len : goal.invariant-loop-len
+invariant-loop-len l = l.places ≡ min (size (take l.len-index l.lens)) (2 ^ 64 - 1)

@@ -9,7 +9,7 @@ use Rattle.reference.proofs.restructure.part.Goals as goal
 pub slice_shape-requires : goal.slice_shape-requires
 slice_shape-requires c =
     let s = c.args.array.now.shape in
-    record { few = omega (arith, slices_length c.args.slices.now (shape_of s) c.requires.fits, shape_few s) }
+    omega (arith, slices_length c.args.slices.now (shape_of s) c.requires.fits, shape_few s)
 
 pub returns : goal.returns
 unfolding part_array

@@ -4,4 +4,4 @@ use Rattle.reference.proofs.restructure.turn.Goals as goal
 
 pub returns : goal.returns
 unfolding turn_array
-returns c = made_shaped c.tabulate.result _ c.transposed_shape-shape.ensures c.tabulate.ensures
+returns c = made_shaped c.tabulate.result _ c.transposed-shape.ensures c.tabulate.ensures

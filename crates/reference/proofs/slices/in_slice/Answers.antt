@@ -1,6 +1,6 @@
 use Rattle.std.proofs.Common.{◌/◌, ◌%◌, ◌&&◌, eqb, ltb, ap, ◌∙◌}
 use Rattle.semantics.specs.Parts.{apart, in_part}
-use Rattle.reference.specs.PartsOf.{part_of}
+use Rattle.semantics.specs.Slices.{part_of}
 use Rattle.reference.proofs.slices.in_slice.Goals as goal
 
 pub returns-then-ahead : goal.returns-then-ahead

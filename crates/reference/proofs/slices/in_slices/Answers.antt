@@ -2,9 +2,9 @@ use Rattle.std.proofs.Common.{◌≡◌, ℕ, ◌+◌, ◌<◌, ◌≤◌, Bool,
 use Rattle.std.proofs.lemmas.List.{length-take-le, get_or-take}
 use Rattle.semantics.specs.Parts.{in_part, in_parts}
 use Rattle.reference.specs.declared.place.Place.{Place}
-use Rattle.reference.specs.declared.slice.Slice.{Slice}
+use Rattle.semantics.specs.declared.slice.Slice.{Slice}
 use Rattle.reference.specs.IndicesOf.{indices_of}
-use Rattle.reference.specs.PartsOf.{part_of, parts_of}
+use Rattle.semantics.specs.Slices.{part_of, parts_of}
 use Rattle.reference.proofs.Slicing.{stepping_at, in_drop, in_end}
 use Rattle.reference.proofs.slices.in_slices.Goals as goal
 

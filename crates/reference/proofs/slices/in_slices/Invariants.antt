@@ -1,7 +1,7 @@
 use Rattle.std.proofs.Common.{◌≡◌, drop}
 use Rattle.semantics.specs.Parts.{in_parts}
 use Rattle.reference.specs.IndicesOf.{indices_of}
-use Rattle.reference.specs.PartsOf.{parts_of}
+use Rattle.semantics.specs.Slices.{parts_of}
 use Rattle.reference.proofs.slices.in_slices.Given as goal
 
 abbrev pub invariant-loop-k : goal.invariant-loop-k

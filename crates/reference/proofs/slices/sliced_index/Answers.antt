@@ -1,6 +1,6 @@
 use Rattle.std.proofs.Common.{arith}
 use Rattle.semantics.proofs.Axes.{place_below}
-use Rattle.reference.specs.PartsOf.{part_of}
+use Rattle.semantics.specs.Slices.{part_of}
 use Rattle.reference.proofs.slices.sliced_index.Goals as goal
 
 pub unreachable-requires : goal.unreachable-requires

@@ -6,11 +6,12 @@ use Rattle.semantics.proofs.Places.{inside_in, length_inside, get_d_inside}
 use Rattle.encoding.specs.declared.shape.Shape.{Shape}
 use Rattle.encoding.specs.ShapeOf.{shape_of}
 use Rattle.reference.specs.declared.place.Place.{Place}
-use Rattle.reference.specs.declared.slice.Slice.{Slice}
+use Rattle.semantics.specs.declared.slice.Slice.{Slice}
 use Rattle.reference.specs.IndicesOf.{indices_of}
-use Rattle.reference.specs.PartsOf.{part_of, parts_of}
-use Rattle.reference.proofs.Filling.{filled_none, filled_more, filled_all}
-use Rattle.reference.proofs.Slicing.{slices_length, fits_at, length_part_shape, get_d_part_shape, length_places_of, get_d_places_of}
+use Rattle.semantics.specs.Slices.{part_of, parts_of}
+use Rattle.encoding.proofs.Filling.{filled_none, filled_more, filled_all}
+use Rattle.encoding.proofs.Parting.{length_part_shape, get_d_part_shape}
+use Rattle.reference.proofs.Slicing.{slices_length, fits_at, length_places_of, get_d_places_of}
 use Rattle.reference.proofs.slices.sliced_place.Goals as goal
 
 -- what a read of no slice would give
@@ -30,8 +31,14 @@ module _ (xs : List Slice) (s : Shape) (p : Place) (long : s.rank ≤ length s.l
   same_rank : p.rank ≡ s.rank
   same_rank = sym (length-take-le p.rank p.indices much) ∙ (place_rank ∙ slices_rank)
 
-pub bounds-slices-k : goal.bounds-slices-k
-bounds-slices-k c = omega (arith, slices_rank c.args.slices.now c.args.shape.now c.args.place.now (omega arith) (omega arith) c.requires.fits c.requires.inside)
+pub bounds-shape-k : goal.bounds-shape-k
+bounds-shape-k c = omega (arith, slices_rank c.args.slices.now c.args.shape.now c.args.place.now (omega arith) (omega arith) c.requires.fits c.requires.inside)
+
+pub bounds-place-k : goal.bounds-place-k
+bounds-place-k c = omega (arith, slices_rank c.args.slices.now c.args.shape.now c.args.place.now (omega arith) (omega arith) c.requires.fits c.requires.inside)
+
+pub bounds-indices-k : goal.bounds-indices-k
+bounds-indices-k c = omega (arith, slices_rank c.args.slices.now c.args.shape.now c.args.place.now (omega arith) (omega arith) c.requires.fits c.requires.inside)
 
 pub loop-k-init : goal.loop-k-init
 loop-k-init c = filled_none _ _ refl

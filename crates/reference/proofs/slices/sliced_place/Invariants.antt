@@ -1,7 +1,7 @@
 use Rattle.semantics.specs.Parts.{places_of}
 use Rattle.reference.specs.IndicesOf.{indices_of}
-use Rattle.reference.specs.PartsOf.{parts_of}
-use Rattle.reference.proofs.Filling.{Filled}
+use Rattle.semantics.specs.Slices.{parts_of}
+use Rattle.encoding.proofs.Filling.{Filled}
 use Rattle.reference.proofs.slices.sliced_place.Given as goal
 
 abbrev pub invariant-loop-k : goal.invariant-loop-k

@@ -1,10 +1,10 @@
 use Rattle.std.proofs.Common.{◌≡◌, ◌/◌, false, length, get_or, take, sym, refl, ap, ◌∙◌, arith}
 use Rattle.std.proofs.lemmas.List.{length-take-le, get_or-take}
 use Rattle.semantics.specs.Parts.{apart}
-use Rattle.reference.specs.declared.slice.Slice.{Slice}
+use Rattle.semantics.specs.declared.slice.Slice.{Slice}
 use Rattle.reference.specs.IndicesOf.{indices_of}
-use Rattle.reference.specs.PartsOf.{part_of}
-use Rattle.reference.proofs.Filling.{filled_none, filled_more, filled_all}
+use Rattle.semantics.specs.Slices.{part_of}
+use Rattle.encoding.proofs.Filling.{filled_none, filled_more, filled_all}
 use Rattle.reference.proofs.Slicing.{stepping_at, length_which_one, get_d_which_one}
 use Rattle.reference.proofs.slices.unsliced_place.Goals as goal
 

@@ -10,11 +10,11 @@ use Rattle.reader.proofs.Taken.{read_as, ReadAs, few_steps}
 use Rattle.reference.proofs.texts.run_text.Goals as goal
 
 pub overflow_mul-steps : goal.overflow_mul-steps
-overflow_mul-steps c = let few = few_steps c.args.text.now c.in-Ok.steps 32768 c.in-Ok.ensures.is in omega arith
+overflow_mul-steps c = let few = few_steps c.args.text.now c.in_ok-steps.steps 32768 c.in_ok-steps.ensures.is in omega arith
 
 pub slice_bounds-interpret-end : goal.slice_bounds-interpret-end
 slice_bounds-interpret-end c =
-    let few = few_steps c.args.text.now c.in-Ok.steps 32768 c.in-Ok.ensures.is in
+    let few = few_steps c.args.text.now c.in_ok-steps.steps 32768 c.in_ok-steps.ensures.is in
     let long = length-replicate {A = ℕ} 32768 0 in
     let kept = c.read_program.auto.words in omega arith
 
@@ -28,16 +28,16 @@ module _ (t : List ℕ) (n : ℕ) (old new : List ℕ) (is : Ok n ≡ result_of 
 
 pub interpret-requires : goal.interpret-requires
 interpret-requires c =
-    let ok = c.in-Ok.ensures in
+    let ok = c.in_ok-steps.ensures in
     let t = c.args.text.now in
     record {
-      stands = record { program = (read t c.in-Ok.steps _ c.read_program.new.words ok.is ok.leaves).program; enc = steps t c.in-Ok.steps _ c.read_program.new.words ok.is ok.leaves };
+      stands = record { program = (read t c.in_ok-steps.steps _ c.read_program.new.words ok.is ok.leaves).program; enc = steps t c.in_ok-steps.steps _ c.read_program.new.words ok.is ok.leaves };
       small = c.if-places.false;
     }
 
 pub returns : goal.returns
 returns c q reads =
-    let ok = c.in-Ok.ensures in
+    let ok = c.in_ok-steps.ensures in
     let t = c.args.text.now in
-    let mine = read t c.in-Ok.steps _ c.read_program.new.words ok.is ok.leaves in
-    c.interpret.ensures.on q (steps t c.in-Ok.steps _ c.read_program.new.words ok.is ok.leaves ∙ ap (λ p. spell_program p []) (one_program t mine.program q mine.reads reads))
+    let mine = read t c.in_ok-steps.steps _ c.read_program.new.words ok.is ok.leaves in
+    c.interpret.ensures.on q (steps t c.in_ok-steps.steps _ c.read_program.new.words ok.is ok.leaves ∙ ap (λ p. spell_program p []) (one_program t mine.program q mine.reads reads))

@@ -20,23 +20,23 @@ array_size s ns few = length_array_bytes (shape_of s) ns ∙ ap (λ n. 1 + 4 * n
 
 pub returns-then-bytes-room : goal.returns-then-bytes-room
 returns-then-bytes-room c =
-    let s = c.args.shape in
+    let s = c.args.env.now.shape in
     let few : s.rank ≤ length s.lens = omega arith in
     record {
       on = λ q.
-          let a = tree_array (inputs_of c.args.inputs.now) q.names q.expr (shape_of s) in
+          let a = tree_array (inputs_of c.args.env.now.lent.bytes.now) q.names q.expr (shape_of s) in
           (omega (arith, array_size s (numbers_at a (up_to 0 (size (shape_of s)))) few, length_numbers_at a 0 (size (shape_of s))), refl);
     }
 
 pub unreachable-requires : goal.unreachable-requires
 unreachable-requires c =
-    let s = c.args.shape in
+    let s = c.args.env.now.shape in
     let few : s.rank ≤ length s.lens = omega arith in
     omega (arith, c.in_default.ensures, head_size s few)
 
 pub show_with-requires : goal.show_with-requires
 show_with-requires c =
-    let s = c.args.shape in
+    let s = c.args.env.now.shape in
     let few : s.rank ≤ length s.lens = omega arith in
     let head = c.in-Some.ensures in
     let type_size = head_size s few in
@@ -46,13 +46,13 @@ show_with-requires c =
 pub returns : goal.returns
 unfolding array_bytes
 returns c =
-    let s = c.args.shape in
+    let s = c.args.env.now.shape in
     let few : s.rank ≤ length s.lens = omega arith in
     let head = c.in-Some.ensures in
     let type_size = head_size s few in
     record {
       on = λ q.
-          let a = tree_array (inputs_of c.args.inputs.now) q.names q.expr (shape_of s) in
+          let a = tree_array (inputs_of c.args.env.now.lent.bytes.now) q.names q.expr (shape_of s) in
           let ns = numbers_at a (up_to 0 (size (shape_of s))) in
           let all = array_size s ns few in
           let many = length_numbers_at a 0 (size (shape_of s)) in (

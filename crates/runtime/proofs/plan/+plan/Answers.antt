@@ -1,5 +1,6 @@
-use Rattle.std.proofs.Common.{◌+◌, refl, arith}
+use Rattle.std.proofs.Common.{◌+◌, refl, sym, ap, arith}
 use Rattle.program.proofs.Nodes.{stands_there, stands_opens, each_operand}
+use Rattle.runtime.specs.Faults.{fault_number}
 use Rattle.runtime.proofs.Building.{step_built, built_opens}
 use Rattle.runtime.proofs.Planning.{name_at, input_at, constant_at, count_at, each_stop_at, each_at, both_stands, both_stands_second, both_stop_at, both_stop_second_at, both_unlike_at, both_at, plan_exit, skips_further}
 use Rattle.runtime.proofs.plan.+plan.Goals as goal
@@ -73,10 +74,10 @@ returns-in_err-b-in-Both t c =
     plan_exit c.args.words.now c.args.inputs.now c.args.names.now c.args.node c.args.left c.from_residual-in_err-b-in-Both.result c.in_err-b-in-Both.field-0.0 c.from_residual-in_err-b-in-Both.ensures.1
     (both_stop_second_at c.args.words.now c.args.inputs.now c.args.names.now c.args.node c.args.left c.in-Some.step c.in-Some.ensures c.in-Both.is c.in_ok-a-in-Both.ensures c.in_err-b-in-Both.ensures)
 
-pub returns-then-not-can_broadcast : goal.returns-then-not-can_broadcast
-returns-then-not-can_broadcast t c =
-    both_unlike_at c.args.words.now c.args.inputs.now c.args.names.now c.args.node c.args.left c.in-Some.step c.in-Some.ensures c.in-Both.is c.in_ok-a-in-Both.ensures c.in_ok-b-in-Both.ensures _ c.if-not-can_broadcast.ensures refl
+pub returns-in_default-broadcast : goal.returns-in_default-broadcast
+returns-in_default-broadcast t c =
+    both_unlike_at c.args.words.now c.args.inputs.now c.args.names.now c.args.node c.args.left c.in-Some.step c.in-Some.ensures c.in-Both.is c.in_ok-a-in-Both.ensures c.in_ok-b-in-Both.ensures _ (sym c.in_default-broadcast.ensures) (ap fault_number c.at.ensures.fault)
 
-pub returns-else-not-can_broadcast : goal.returns-else-not-can_broadcast
-returns-else-not-can_broadcast t c =
-    both_at c.args.words.now c.args.inputs.now c.args.names.now c.args.node c.args.left c.in-Some.step c.in-Some.ensures c.in-Both.is c.in_ok-a-in-Both.ensures c.in_ok-b-in-Both.ensures c.if-not-can_broadcast.ensures c.broadcast_shape-shape.ensures c.count_array-in-Both.ensures
+pub returns-in-Some-broadcast : goal.returns-in-Some-broadcast
+returns-in-Some-broadcast t c =
+    both_at c.args.words.now c.args.inputs.now c.args.names.now c.args.node c.args.left c.in-Some.step c.in-Some.ensures c.in-Both.is c.in_ok-a-in-Both.ensures c.in_ok-b-in-Both.ensures (sym c.in-Some-broadcast.ensures.0) c.in-Some-broadcast.ensures.1 c.count_array-in-Both.ensures

@@ -1,21 +1,17 @@
-use Rattle.std.proofs.Common.{◌<◌, length, refl, ◌∙◌, arith}
-use Rattle.std.proofs.lemmas.List.{get_or_past}
-use Rattle.kernels.specs.declared.slot.Slot.TheVariants.{Empty}
-use Rattle.kernels.proofs.Feeding.{get_d_any}
-use Rattle.runtime.proofs.Planning.{name_nothing, name_counts, slot_empty}
+use Rattle.std.proofs.Common.{sym, ap, ◌∙◌}
+use Rattle.runtime.specs.Planning.{NamePlan}
+use Rattle.runtime.proofs.Planning.{name_nothing, name_counts}
+use Rattle.runtime.proofs.Stops.{exits, found, missed}
 use Rattle.runtime.proofs.plan.plan_name.Goals as goal
 
-pub returns-then-k-ge64 : goal.returns-then-k-ge64
-returns-then-k-ge64 c =
-    name_nothing c.args.names.now c.args.name c.args.left c.args.next _ (get_or_past c.args.names.now c.args.name Empty (omega (arith, c.told-names))) refl
-
--- the slot that was read, whatever stands for one that is not there
-pub returns-in_default : goal.returns-in_default
-returns-in_default c =
-    let there : c.args.name < length c.args.names.now = omega (arith, c.told-names) in
-    name_nothing c.args.names.now c.args.name c.args.left c.args.next _ (get_d_any c.args.names.now c.args.name Empty c.index-names-k.result there ∙ slot_empty _ c.in_default.not-Held) refl
+pub returns-in_err-view : goal.returns-in_err-view
+returns-in_err-view c =
+    let x = c.in_err-view.field-0.0 in
+    let m = missed c.view_of.result c.at.result x (sym c.ok_or.ensures.value ∙ c.in_err-view.was) in
+    exits (NamePlan c.args.names.now c.args.name c.args.left c.args.next) c.from_residual.result x c.from_residual.ensures.1
+    (name_nothing c.args.names.now c.args.name c.args.left c.args.next x (sym c.view_of.ensures ∙ m.0) (ap (λ s. s.fault) m.1 ∙ c.at.ensures.fault))
 
 pub returns : goal.returns
 returns c =
-    let there : c.args.name < length c.args.names.now = omega (arith, c.told-names) in
-    name_counts c.args.names.now c.args.name c.args.left c.args.next c.in-Held.view _ (get_d_any c.args.names.now c.args.name Empty c.index-names-k.result there ∙ c.in-Held.is) c.count_array.ensures
+    let h = found c.view_of.result c.at.result c.in_ok-view.view (sym c.ok_or.ensures.value ∙ c.in_ok-view.was) in
+    name_counts c.args.names.now c.args.name c.args.left c.args.next c.in_ok-view.view _ (sym c.view_of.ensures ∙ h) c.count_array.ensures

@@ -1,6 +1,7 @@
-use Rattle.std.proofs.Common.{refl, arith}
+use Rattle.std.proofs.Common.{refl, ap, arith}
 use Rattle.std.proofs.lemmas.Result.{IfOk-from_err}
 use Rattle.kernels.proofs.Shallows.{few_steps_shallow}
+use Rattle.runtime.specs.Faults.{fault_number}
 use Rattle.runtime.proofs.Binding.{view_keeps}
 use Rattle.runtime.proofs.Stating.{plan_ready, view_size, plan_let_stop, plan_let_nowhere, plan_let_view, plan_let_new, let_exit}
 use Rattle.runtime.proofs.statements.run_let.Goals as goal
@@ -21,7 +22,7 @@ returns-then-k-ge64 c =
       keeps = c.requires.keeps;
       skips = tt;
       right = λ e t u enc st.
-          plan_let_nowhere c.args.words.now c.args.node c.requires.runnable c.args.area.now c.args.inputs.now c.args.memory.now c.requires.keeps.counted _ refl e t enc u st c.args.name c.in_ok-planned.planned c.in_ok-planned.ensures c.args.area.now c.args.memory.now.names c.if-k-ge64.true refl;
+          plan_let_nowhere c.args.words.now c.args.node c.requires.runnable c.args.area.now c.args.inputs.now c.args.memory.now c.requires.keeps.counted _ refl e t enc u st c.args.name c.in_ok-planned.planned c.in_ok-planned.ensures c.args.area.now c.args.memory.now.names c.if-k-ge64.true (ap fault_number c.at.ensures.fault);
     }
 
 pub find_view-requires : goal.find_view-requires

@@ -1,6 +1,10 @@
-use Rattle.std.proofs.Common.{refl, arith}
+use Rattle.std.proofs.Common.{sym, refl, ap, ◌∙◌, subst, arith}
 use Rattle.std.proofs.lemmas.Result.{IfOk-from_err}
 use Rattle.kernels.proofs.Shallows.{few_steps_shallow}
+use Rattle.encoding.specs.ShapeOf.{shape_of}
+use Rattle.runtime.specs.Showing.{TreeShown}
+use Rattle.runtime.specs.Statements.{ShowGoes}
+use Rattle.runtime.proofs.Stops.{exits, found, missed}
 use Rattle.runtime.proofs.Stating.{plan_ready, plan_show_stop, plan_show_done, plan_show_full, show_exit}
 use Rattle.runtime.proofs.statements.run_show.Goals as goal
 
@@ -24,18 +28,24 @@ show_tree-requires c =
       scratch = c.requires.scratch;
     }
 
-pub returns-in-Some : goal.returns-in-Some
-returns-in-Some c =
+pub returns : goal.returns
+returns c =
+    let h = found c.show_tree.result c.at.result c.in_ok-end.end (sym c.ok_or.ensures.value ∙ c.in_ok-end.was) in
     record {
       skips = c.in_ok-planned.ensures.skips;
       right = λ e t u enc st.
-          plan_show_done c.args.words.now c.args.node c.requires.runnable c.args.area.now c.args.inputs.now c.args.memory.now c.requires.keeps.counted _ refl e t enc u st c.in_ok-planned.planned c.in_ok-planned.ensures c.args.shown c.args.room.now c.show_tree.new.room _ c.in-Some.ensures;
+          plan_show_done c.args.words.now c.args.node c.requires.runnable c.args.area.now c.args.inputs.now c.args.memory.now c.requires.keeps.counted _ refl e t enc u st c.in_ok-planned.planned c.in_ok-planned.ensures c.args.shown c.args.room.now c.show_tree.new.room _
+          (subst (TreeShown c.args.words.now c.args.node c.args.memory.now.names c.args.area.now c.args.inputs.now (shape_of c.in_ok-planned.planned.shape) c.args.shown c.args.room.now c.show_tree.new.room) h c.show_tree.ensures);
     }
 
-pub returns-in-None : goal.returns-in-None
-returns-in-None c =
+pub returns-in_err-end : goal.returns-in_err-end
+returns-in_err-end c =
+    let x = c.in_err-end.field-0.0 in
+    let m = missed c.show_tree.result c.at.result x (sym c.ok_or.ensures.value ∙ c.in_err-end.was) in
     record {
-      skips = tt;
+      skips = IfOk-from_err _ _ c.from_residual-in_err-end.ensures.0;
       right = λ e t u enc st.
-          plan_show_full c.args.words.now c.args.node c.requires.runnable c.args.area.now c.args.inputs.now c.args.memory.now c.requires.keeps.counted _ refl e t enc u st c.in_ok-planned.planned c.in_ok-planned.ensures c.args.shown c.args.room.now c.show_tree.new.room _ refl c.in-None.ensures;
+          exits (ShowGoes u _ c.args.shown c.args.room.now c.show_tree.new.room) c.from_residual-in_err-end.result x c.from_residual-in_err-end.ensures.1
+          (plan_show_full c.args.words.now c.args.node c.requires.runnable c.args.area.now c.args.inputs.now c.args.memory.now c.requires.keeps.counted _ refl e t enc u st c.in_ok-planned.planned c.in_ok-planned.ensures c.args.shown c.args.room.now c.show_tree.new.room x (ap (λ s. s.fault) m.1 ∙ c.at.ensures.fault)
+          (subst (TreeShown c.args.words.now c.args.node c.args.memory.now.names c.args.area.now c.args.inputs.now (shape_of c.in_ok-planned.planned.shape) c.args.shown c.args.room.now c.show_tree.new.room) m.0 c.show_tree.ensures));
     }

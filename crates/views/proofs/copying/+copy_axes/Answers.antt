@@ -1,37 +1,38 @@
 use Rattle.std.proofs.Common.{◌≡◌, ℕ, ◌+◌, ◌*◌, ◌/◌, ◌<◌, ◌≤◌, List, length, get_or, pos, ◌+ℤ◌, ◌*ℤ◌, nat_abs, sym, ap, ◌∙◌, arith, w32, w64, Fits, SFits, rules}
+use Rattle.std.proofs.lemmas.Bool.{eqb-true}
 use Rattle.semantics.specs.Shapes.{size}
 use Rattle.semantics.specs.OrderLaws.{dot}
 use Rattle.views.specs.Views.{number_from}
 use Rattle.std.proofs.lemmas.Int.{to_z-of_z}
-use Rattle.views.proofs.Copies.{walk_steps, walk_next}
+use Rattle.views.proofs.Copies.{some_room, walk_steps, walk_next}
 use Rattle.views.proofs.CopyAxes.{rest, copied_none, walk_point, copied_point, row_walk, row_copied, walk_split, copied_join, split, split_place, part_fits, axes_more, axes_part, axes_done, length_mid, length_rest}
 use Rattle.views.proofs.copying.+copy_axes.Goals as goal
 
-pub returns-then-out-eq0 : goal.returns-then-out-eq0
-returns-then-out-eq0 t c = copied_none (sym c.requires.room ∙ c.if-out-eq0.true)
+pub returns-then-is_empty : goal.returns-then-is_empty
+returns-then-is_empty t c = copied_none (sym c.requires.room ∙ eqb-true _ _ (sym c.if-is_empty.ensures))
 
 pub number_at-requires : goal.number_at-requires
-number_at-requires t c = walk_point c.requires.walk c.if-lens-eq0.true
+number_at-requires t c = walk_point c.requires.walk (omega (arith, c.in-empty.len_below))
 
-pub returns-then-lens-eq0 : goal.returns-then-lens-eq0
-returns-then-lens-eq0 t c = copied_point c.number_at.result c.args.out.now c.if-lens-eq0.true (omega arith) c.number_at.ensures
+pub returns-in-empty : goal.returns-in-empty
+returns-in-empty t c = copied_point c.number_at.result c.args.out.now (omega (arith, c.in-empty.len_below)) (some_room _ c.if-is_empty.ensures) c.number_at.ensures
 
 pub copy_row-requires : goal.copy_row-requires
 copy_row-requires t c =
     let f : SFits w64 (get_or c.args.strides.now 0 (pos 0)) = search rules in
-    row_walk c.args.lens.now c.args.strides.now (length c.args.out.now) c.requires.walk c.if-lens-eq1.true (omega arith) c.requires.room f
+    row_walk c.args.lens.now c.args.strides.now (length c.args.out.now) c.requires.walk (omega (arith, c.in-len1.len_at_least, c.in-len1.len_below)) (omega arith) c.requires.room f
 
-pub returns-then-lens-eq1 : goal.returns-then-lens-eq1
-returns-then-lens-eq1 t c =
+pub returns-in-len1 : goal.returns-in-len1
+returns-in-len1 t c =
     let f : SFits w64 (get_or c.args.strides.now 0 (pos 0)) = search rules in
-    row_copied c.args.lens.now c.args.strides.now (length c.args.out.now) c.copy_row.new.out c.if-lens-eq1.true (omega arith) c.requires.room f c.copy_row.ensures
+    row_copied c.args.lens.now c.args.strides.now (length c.args.out.now) c.copy_row.new.out (omega (arith, c.in-len1.len_at_least, c.in-len1.len_below)) (omega arith) c.requires.room f c.copy_row.ensures
 
 pub nonzero_div-below : goal.nonzero_div-below
-nonzero_div-below t c = (split c.args.lens.now (length c.args.out.now) (omega arith) c.requires.room (omega arith)).some
+nonzero_div-below t c = (split c.args.lens.now (length c.args.out.now) (omega arith) c.requires.room (some_room _ c.if-is_empty.ensures)).some
 
-pub step_to-at-requires : goal.step_to-at-requires
-step_to-at-requires t c =
-    let p = split c.args.lens.now (length c.args.out.now) (omega arith) c.requires.room (omega arith) in
+pub step_to-requires : goal.step_to-requires
+step_to-requires t c =
+    let p = split c.args.lens.now (length c.args.out.now) (omega arith) c.requires.room (some_room _ c.if-is_empty.ensures) in
     let f : SFits w64 (get_or c.args.strides.now 0 (pos 0)) = search rules in
     let near : Fits w32 (get_or c.args.lens.now 0 0) = c.type_inv.lens 0 in
     walk_steps (walk_split c.requires.walk (omega arith) (omega arith)) c.loop-i.i f (omega arith) (omega arith) (split_place p)
@@ -43,18 +44,18 @@ room s out i l e some h =
     part_fits i (get_or s 0 0) (length out / get_or s 0 0) (length out) h (p.whole ∙ ap (λ m. get_or s 0 0 * m) (sym p.below))
 
 pub overflow_mul-first : goal.overflow_mul-first
-overflow_mul-first t c = record { fits = omega (arith, room c.args.lens.now c.args.out.now c.loop-i.i (omega arith) c.requires.room (omega arith) c.loop-i-test.true) }
+overflow_mul-first t c = record { fits = omega (arith, room c.args.lens.now c.args.out.now c.loop-i.i (omega arith) c.requires.room (some_room _ c.if-is_empty.ensures) c.loop-i-test.true) }
 
 pub overflow_add-first : goal.overflow_add-first
-overflow_add-first t c = record { fits = omega (arith, room c.args.lens.now c.args.out.now c.loop-i.i (omega arith) c.requires.room (omega arith) c.loop-i-test.true) }
+overflow_add-first t c = record { fits = omega (arith, room c.args.lens.now c.args.out.now c.loop-i.i (omega arith) c.requires.room (some_room _ c.if-is_empty.ensures) c.loop-i-test.true) }
 
 pub offset_bounds-out-first : goal.offset_bounds-out-first
 offset_bounds-out-first t c =
-    let fits = room c.args.lens.now c.args.out.now c.loop-i.i (omega arith) c.requires.room (omega arith) c.loop-i-test.true in record { fits = omega arith }
+    let fits = room c.args.lens.now c.args.out.now c.loop-i.i (omega arith) c.requires.room (some_room _ c.if-is_empty.ensures) c.loop-i-test.true in record { fits = omega arith }
 
-pub slice_bounds-copy_axes-end-in-loop-i-2 : goal.slice_bounds-copy_axes-end-in-loop-i-2
-slice_bounds-copy_axes-end-in-loop-i-2 t c =
-    omega (arith, room c.args.lens.now c.args.out.now c.loop-i.i (omega arith) c.requires.room (omega arith) c.loop-i-test.true)
+pub slice_bounds-copy_axes-end-in-loop-i : goal.slice_bounds-copy_axes-end-in-loop-i
+slice_bounds-copy_axes-end-in-loop-i t c =
+    omega (arith, room c.args.lens.now c.args.out.now c.loop-i.i (omega arith) c.requires.room (some_room _ c.if-is_empty.ensures) c.loop-i-test.true)
 
 pub copy_axes-requires : goal.copy_axes-requires
 copy_axes-requires t c =
@@ -62,15 +63,15 @@ copy_axes-requires t c =
     let zs = c.args.strides.now in
     let n = length c.args.out.now in
     let m = n / get_or s 0 0 in
-    let p = split s n (omega arith) c.requires.room (omega arith) in
+    let p = split s n (omega arith) c.requires.room (some_room _ c.if-is_empty.ensures) in
     let f : SFits w64 (get_or zs 0 (pos 0)) = search rules in
-    let fits = room s c.args.out.now c.loop-i.i (omega arith) c.requires.room (omega arith) c.loop-i-test.true in
-    let same = ap (λ z. pos c.args.from +ℤ z *ℤ pos c.loop-i.i) (sym (to_z-of_z w64 (get_or zs 0 (pos 0)) f)) ∙ c.step_to-at.ensures in (
+    let fits = room s c.args.out.now c.loop-i.i (omega arith) c.requires.room (some_room _ c.if-is_empty.ensures) c.loop-i-test.true in
+    let same = ap (λ z. pos c.args.from +ℤ z *ℤ pos c.loop-i.i) (sym (to_z-of_z w64 (get_or zs 0 (pos 0)) f)) ∙ c.step_to.ensures in (
       omega (arith, length_rest s, c.decreases),
       (
         omega (arith, length_rest s, length_rest zs),
         (
-          walk_next (walk_split c.requires.walk (omega arith) (omega arith)) c.loop-i.i c.step_to-at.result c.loop-i-test.true same,
+          walk_next (walk_split c.requires.walk (omega arith) (omega arith)) c.loop-i.i c.step_to.result c.loop-i-test.true same,
           length_mid (c.loop-i.i * m) m c.loop-i.out (omega arith) ∙ p.below,
         ),
       ),
@@ -82,16 +83,16 @@ loop-i-preserved t c =
     let zs = c.args.strides.now in
     let n = length c.args.out.now in
     let m = n / get_or s 0 0 in
-    let p = split s n (omega arith) c.requires.room (omega arith) in
+    let p = split s n (omega arith) c.requires.room (some_room _ c.if-is_empty.ensures) in
     let f : SFits w64 (get_or zs 0 (pos 0)) = search rules in
-    let fits = room s c.args.out.now c.loop-i.i (omega arith) c.requires.room (omega arith) c.loop-i-test.true in
-    axes_more (λ j is. number_from c.args.source c.args.area.now c.args.bytes.now (nat_abs (pos c.args.from +ℤ get_or zs 0 (pos 0) *ℤ pos j +ℤ dot (rest zs) is)))
+    let fits = room s c.args.out.now c.loop-i.i (omega arith) c.requires.room (some_room _ c.if-is_empty.ensures) c.loop-i-test.true in
+    axes_more (λ j is. number_from c.args.source c.args.lent.area.now c.args.lent.bytes.now (nat_abs (pos c.args.from +ℤ get_or zs 0 (pos 0) *ℤ pos j +ℤ dot (rest zs) is)))
     (rest s) m c.loop-i.i _ c.loop-i.out c.copy_axes.new.out p.below (omega arith) (c.copy_axes.auto.out ∙ length_mid (c.loop-i.i * m) m c.loop-i.out (omega arith)) c.loop-i.invariant
-    (axes_part c.args.from c.loop-i.i f c.step_to-at.ensures c.copy_axes.ensures)
+    (axes_part c.args.from c.loop-i.i f c.step_to.ensures c.copy_axes.ensures)
 
-pub returns : goal.returns
-returns t c =
+pub returns-after-loop-i : goal.returns-after-loop-i
+returns-after-loop-i t c =
     let s = c.args.lens.now in
     let n = length c.args.out.now in
-    let p = split s n (omega arith) c.requires.room (omega arith) in
+    let p = split s n (omega arith) c.requires.room (some_room _ c.if-is_empty.ensures) in
     copied_join (omega arith) (omega arith) (axes_done (n / get_or s 0 0) p.below (λ j l is h. c.loop-i.invariant j (omega arith) is h))

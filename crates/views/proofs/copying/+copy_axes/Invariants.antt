@@ -9,6 +9,6 @@ decreases-copy_axes l = length l.lens.now
 
 abbrev pub invariant-loop-i : goal.invariant-loop-i
 invariant-loop-i l =
-    (j : ℕ) → j < l.i → (is : List ℕ) → In (take (length l.lens - 1) (drop 1 l.lens)) is →
-    get_or l.out (j * l.below + flat (take (length l.lens - 1) (drop 1 l.lens)) is) 0
-    ≡ number_from l.source l.area l.bytes (nat_abs (pos l.from +ℤ get_or l.strides 0 (pos 0) *ℤ pos j +ℤ dot (take (length l.strides - 1) (drop 1 l.strides)) is))
+    (j : ℕ) → j < l.i → (is : List ℕ) → In l.inner is →
+    get_or l.out (j * l.below + flat l.inner is) 0
+    ≡ number_from l.source l.lent.area.now l.lent.bytes.now (nat_abs (pos l.from +ℤ get_or l.strides 0 (pos 0) *ℤ pos j +ℤ dot (take (length l.strides - 1) (drop 1 l.strides)) is))

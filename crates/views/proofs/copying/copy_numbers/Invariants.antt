@@ -3,5 +3,5 @@ use Rattle.views.specs.declared.view.Source.TheVariants.{Input}
 use Rattle.views.specs.Views.{number_from}
 use Rattle.views.proofs.copying.copy_numbers.Given as goal
 
-abbrev pub invariant-loop-k : goal.invariant-loop-k
-invariant-loop-k l = (j : ℕ) → j < l.k → get_or l.out j 0 ≡ number_from (Input l.base) [] l.bytes (nat_abs (pos l.from +ℤ l.stride *ℤ pos j))
+abbrev pub invariant-loop-index : goal.invariant-loop-index
+invariant-loop-index l = (j : ℕ) → j < l.index → get_or l.out j 0 ≡ number_from (Input l.base) [] l.bytes (nat_abs (pos l.from +ℤ l.stride *ℤ pos j))

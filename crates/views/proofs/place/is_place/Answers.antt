@@ -1,24 +1,23 @@
-use Rattle.std.proofs.Common.{◌<◌, refl, ◌∙◌, arith, length-take, get_or-take}
-use mathlib.Core.Bool.{false≢true}
+use Rattle.std.proofs.Common.{◌≡◌, ltb, length, ◌∙◌, arith, rules, tests}
+use Rattle.std.proofs.lemmas.Bool.{eqb-true}
+use Rattle.std.proofs.lemmas.Iterator.{YieldsList-from_slice, YieldsList-from_zip}
+use Rattle.std.proofs.lemmas.Iterator.Search.{all_from_yields_List}
+use Rattle.std.proofs.lemmas.List.{length-take-le}
 use Rattle.semantics.specs.Shapes.{In}
+use Rattle.encoding.specs.ShapeOf.{shape_of}
+use Rattle.views.proofs.Within.{place_decided}
 use Rattle.views.proofs.place.is_place.Goals as goal
 
 pub returns-then-place-shape : goal.returns-then-place-shape
-unfolding In
 returns-then-place-shape c =
-    let rank = length-take c.args.shape.rank c.args.shape.lens in
-    (λ e. absurd (false≢true e), λ h. absurd (c.if-place-shape.true (h.0 ∙ (rank ∙ omega arith))))
+    let s = shape_of c.args.shape in
+    let is = c.args.place.now in
+    let long : length s ≡ c.args.shape.rank = length-take-le c.args.shape.rank c.args.shape.lens (omega arith) in
+    let ran = all_from_yields_List (λ q. ltb q.0 q.1) c.all.new.self _ c.all.result c.all.ensures.ran (YieldsList-from_zip (YieldsList-from_slice is cc) (YieldsList-from_slice s cc)) (λ x b q k. search (rules, tests)) in
+    rw ran (place_decided s is (omega arith))
 
-pub returns-then-place-k : goal.returns-then-place-k
+pub returns-else-place-shape : goal.returns-else-place-shape
 unfolding In
-returns-then-place-k c =
-    let rank = length-take c.args.shape.rank c.args.shape.lens in
-    let k = c.loop-k.k in
-    let low : k < c.args.shape.rank = omega arith in
-    (λ e. absurd (false≢true e), λ h. absurd (omega (arith, h.1 k (omega arith), get_or-take c.args.shape.rank c.args.shape.lens k 0 low)))
-
-pub returns : goal.returns
-unfolding In
-returns c =
-    let rank = length-take c.args.shape.rank c.args.shape.lens in
-    (λ e. (omega arith, λ k l. let low : k < c.args.shape.rank = omega arith in rw (get_or-take c.args.shape.rank c.args.shape.lens k 0 low) (c.loop-k.invariant k (omega arith))), λ h. refl)
+returns-else-place-shape c =
+    let long : length (shape_of c.args.shape) ≡ c.args.shape.rank = length-take-le c.args.shape.rank c.args.shape.lens (omega arith) in
+    (λ e. absurd (c.if-place-shape.false (eqb-true _ _ e)), λ h. absurd (c.if-place-shape.false (h.0 ∙ long)))

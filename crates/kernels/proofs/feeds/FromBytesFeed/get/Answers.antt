@@ -8,4 +8,4 @@ use Rattle.kernels.proofs.feeds.FromBytesFeed.get.Goals as goal
 pub returns : goal.returns
 unfolding number_at
 returns c =
-    record { on = λ a e. stands_to (c.word_at.ensures ∙ (sym (no_nan_canonical (word8 c.args.bytes.now (c.args.place + 8 * c.args.k)) c.requires.1) ∙ e)) c.plain_float.ensures }
+    record { on = λ a e. stands_to (c.word_at.ensures ∙ (sym (no_nan_canonical (word8 c.args.lent.bytes.now (c.args.place + 8 * c.args.k)) c.requires.1) ∙ e)) c.plain_float.ensures }

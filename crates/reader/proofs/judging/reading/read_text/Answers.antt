@@ -30,8 +30,11 @@ pub advance_quick-requires : goal.advance_quick-requires
 advance_quick-requires c =
     record {
       inside = c.loop-i-test.true;
-      good = (unchanged c.if-skim.ensures c.loop-i.invariant.way).good;
-      hinted = subst (λ m. Hinted c.args.text.now c.loop-i.i m) (sym c.if-skim.ensures) c.loop-i.invariant.hinted;
+      standing =
+          record {
+            good = (unchanged c.if-skim.ensures c.loop-i.invariant.way).good;
+            hinted = subst (λ m. Hinted c.args.text.now c.loop-i.i m) (sym c.if-skim.ensures) c.loop-i.invariant.hinted;
+          };
     }
 
 pub returns-in_default : goal.returns-in_default

@@ -11,4 +11,4 @@ returns c =
     let m = c.args.machine.now in
     let k = get_or m.hints c.sum_of.result 0 in
     subst (λ w. KnownAs (names_of t m) w k) c.part_of-word.ensures
-    (known_by t m.names m.count k _ c.part_of-word.result.now c.part_of.result.now c.requires.hinted.named (omega (arith, c.requires.good.few, c.requires.good.spans)) c.if-k-machine.false c.part_of.ensures (sym c.if-not-same_word.ensures))
+    (known_by t m.names m.count k _ c.part_of-word.result.now c.of.result.now c.requires.hinted.named (omega (arith, c.requires.good.few, c.requires.good.spans)) c.if-k-machine.false c.of.ensures (sym c.if-not-same_word.ensures))

@@ -7,10 +7,10 @@ use Rattle.reader.proofs.Settling.{less_room, advanced_both, advanced_on}
 use Rattle.reader.proofs.stepping.moving.advance_quick.Goals as goal
 
 pub begin_mark-requires : goal.begin_mark-requires
-begin_mark-requires c = record { inside = c.requires.inside; good = less_room c.args.i c.args.machine.now c.requires.good; hinted = c.requires.hinted }
+begin_mark-requires c = record { inside = c.requires.inside; good = less_room c.args.i c.args.machine.now c.requires.standing.good; hinted = c.requires.standing.hinted }
 
 pub returns-then-begin_mark-clause-advances : goal.returns-then-begin_mark-clause-advances
-returns-then-begin_mark-clause-advances c = advanced_on c.args.text.now c.args.i c.args.machine.now c.begin_mark.new.machine Mark.Begins c.requires.good c.if-begin_mark.ensures
+returns-then-begin_mark-clause-advances c = advanced_on c.args.text.now c.args.i c.args.machine.now c.begin_mark.new.machine Mark.Begins c.requires.standing.good c.if-begin_mark.ensures
 
 pub returns-then-begin_mark-clause-kept : goal.returns-then-begin_mark-clause-kept
 returns-then-begin_mark-clause-kept c = c.if-begin_mark.ensures.hinted
@@ -18,15 +18,15 @@ returns-then-begin_mark-clause-kept c = c.if-begin_mark.ensures.hinted
 pub end_known-requires : goal.end_known-requires
 end_known-requires c =
     record {
-      good = subst (λ m. Good c.args.i 16 m) (sym c.if-begin_mark.ensures) c.requires.good;
-      hinted = subst (λ m. Hinted c.args.text.now c.args.i m) (sym c.if-begin_mark.ensures) c.requires.hinted;
+      good = subst (λ m. Good c.args.i 16 m) (sym c.if-begin_mark.ensures) c.requires.standing.good;
+      hinted = subst (λ m. Hinted c.args.text.now c.args.i m) (sym c.if-begin_mark.ensures) c.requires.standing.hinted;
     }
 
 pub advance-requires : goal.advance-requires
 advance-requires c =
     record {
       inside = c.requires.inside;
-      good = subst (λ m. Good c.args.i 16 m) (sym (c.in_default.ensures ∙ c.if-begin_mark.ensures)) c.requires.good;
+      good = subst (λ m. Good c.args.i 16 m) (sym (c.in_default.ensures ∙ c.if-begin_mark.ensures)) c.requires.standing.good;
     }
 
 pub returns-in_default-clause-advances : goal.returns-in_default-clause-advances
@@ -35,7 +35,7 @@ returns-in_default-clause-advances c =
 
 pub returns-in_default-clause-kept : goal.returns-in_default-clause-kept
 returns-in_default-clause-kept c =
-    c.advance.ensures.kept (subst (λ m. Hinted c.args.text.now c.args.i m) (sym (c.in_default.ensures ∙ c.if-begin_mark.ensures)) c.requires.hinted)
+    c.advance.ensures.kept (subst (λ m. Hinted c.args.text.now c.args.i m) (sym (c.in_default.ensures ∙ c.if-begin_mark.ensures)) c.requires.standing.hinted)
 
 pub take_plain-requires : goal.take_plain-requires
 take_plain-requires c = record { inside = c.requires.inside; good = c.in-Some.ensures.settled.good; hinted = c.in-Some.ensures.hinted }
@@ -52,22 +52,24 @@ returns-then-take_plain-clause-kept c = c.if-take_plain.ensures.hinted
 pub turn_top-requires : goal.turn_top-requires
 turn_top-requires c = record { inside = c.requires.inside; good = subst (λ m. Good c.args.i 8 m) (sym c.if-take_plain.ensures) c.in-Some.ensures.settled.good }
 
-pub returns-in_default-turn_top-clause-advances : goal.returns-in_default-turn_top-clause-advances
+pub returns-in_err-turned-clause-advances : goal.returns-in_err-turned-clause-advances
 unfolding next
-returns-in_default-turn_top-clause-advances c out =
+returns-in_err-turned-clause-advances c =
     let t = c.args.text.now in
     let i = c.args.i in
     let b = get_or t i 0 in
+    subst (λ r. Advances t i c.args.machine.now c.turn_top.new.machine r) (sym c.from_residual.ensures)
+    (λ out.
     let said = option_to_list c.in-Some.before.step ++ out in
     ap (λ m. next (state_of t i m out) b) (sym c.if-begin_mark.ensures)
     ∙ (ap (λ q. moved (top_move q b) q) (c.in-Some.ensures.settled.is out)
-    ∙ (ap (λ m. moved (top_move (state_of t i m said) b) (state_of t i m said)) (sym c.if-take_plain.ensures) ∙ c.in_default-turn_top.ensures.turns said))
+    ∙ (ap (λ m. moved (top_move (state_of t i m said) b) (state_of t i m said)) (sym c.if-take_plain.ensures) ∙ c.in_err-turned.ensures.turns said)))
 
 pub returns-clause-advances : goal.returns-clause-advances
 returns-clause-advances c =
-    advanced_both c.args.text.now c.args.i c.args.machine.now c.end_known.new.machine c.turn_top.new.machine c.in-Some.before c.in-Some-turn_top.turned
+    advanced_both c.args.text.now c.args.i c.args.machine.now c.end_known.new.machine c.turn_top.new.machine c.in-Some.before c.in_ok-turned.turned
     (subst (λ m. Settled c.args.text.now c.args.i (get_or c.args.text.now c.args.i 0) m c.end_known.new.machine c.in-Some.before) c.if-begin_mark.ensures c.in-Some.ensures.settled)
-    (subst (λ m. Turned c.args.text.now c.args.i m c.turn_top.new.machine c.in-Some-turn_top.turned) c.if-take_plain.ensures c.in-Some-turn_top.ensures.turns)
+    (subst (λ m. Turned c.args.text.now c.args.i m c.turn_top.new.machine c.in_ok-turned.turned) c.if-take_plain.ensures c.in_ok-turned.ensures.turns)
 
 pub returns-clause-kept : goal.returns-clause-kept
-returns-clause-kept c = c.in-Some-turn_top.ensures.kept (subst (λ m. Hinted c.args.text.now c.args.i m) (sym c.if-take_plain.ensures) c.in-Some.ensures.hinted)
+returns-clause-kept c = c.in_ok-turned.ensures.kept (subst (λ m. Hinted c.args.text.now c.args.i m) (sym c.if-take_plain.ensures) c.in-Some.ensures.hinted)

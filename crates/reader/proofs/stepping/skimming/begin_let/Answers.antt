@@ -1,9 +1,13 @@
-use Rattle.std.proofs.Common.{get_or, refl}
-use Rattle.grammar.specs.declared.symbol.Symbol.{Symbol}
+use Rattle.std.proofs.Common.{◌+◌, refl, ◌∙◌, subst, arith}
+use Rattle.reader.specs.Machines.{Placed}
 use Rattle.reader.proofs.Skimming.{let_read}
 use Rattle.reader.proofs.stepping.skimming.begin_let.Goals as goal
+
+pub replace_top-requires : goal.replace_top-requires
+replace_top-requires c = record { there = c.in-Some.ensures.there; room = omega (arith, c.requires.good.room, c.as_slice.ensures.few) }
 
 pub returns : goal.returns
 returns c =
     let m = c.args.machine.now in
-    let_read c.args.text.now c.args.i m c.requires.good c.requires.hinted c.if-top-ge-DEPTH.false (get_or m.stack m.top Symbol.Lines) _ _ refl (c.if-not-is_between.ensures refl) c.if-text-i-ne108.false c.lay_let-machine.ensures
+    let placed = subst (λ p. Placed m c.replace_top.new.self p (c.args.i + 1)) (c.as_slice.ensures.are ∙ c.target_line-line.ensures) c.replace_top.ensures in
+    let_read c.args.text.now c.args.i m c.requires c.in-Some.symbol _ c.in-Some.ensures (c.if-not-is_between.ensures refl) c.if-text-i-ne108.false placed

@@ -9,10 +9,10 @@ use Rattle.reader.proofs.stepping.skimming.stays_shaped.Goals as goal
 pub returns-then-machine : goal.returns-then-machine
 returns-then-machine c is =
     let m = c.args.machine.now in
-    still_shaped c.args.text.now m.word c.args.i c.requires.good.begun c.requires.inside (c.requires.hinted.shape c.if-machine.true) c.requires.letter (ltb-true (c.args.i - m.word) 8 is)
+    still_shaped c.args.text.now m.word c.args.i c.requires.reading.good.begun c.requires.reading.inside (c.requires.reading.hinted.shape c.if-machine.true) c.requires.letter (ltb-true (c.args.i - m.word) 8 is)
 
 pub returns : goal.returns
 returns c is =
     let t = c.args.text.now in
     let i = c.args.i in
-    ap (λ a. shaped (part t a (i + 1))) c.if-machine-i.false ∙ (ap shaped (part_one t i c.requires.inside) ∙ letter_shaped (get_or t i 0) (sym c.is_letter.ensures ∙ is))
+    ap (λ a. shaped (part t a (i + 1))) c.if-machine-i.false ∙ (ap shaped (part_one t i c.requires.reading.inside) ∙ letter_shaped (get_or t i 0) (sym c.is_letter.ensures ∙ is))

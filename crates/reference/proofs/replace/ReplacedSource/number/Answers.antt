@@ -1,11 +1,11 @@
 use Rattle.std.proofs.Common.{false, sym, subst, arith}
 use Rattle.semantics.proofs.Places.{inside_in, length_inside}
 use Rattle.encoding.specs.ShapeOf.{shape_of}
-use Rattle.reference.specs.declared.slice.Slice.{Slice}
+use Rattle.semantics.specs.declared.slice.Slice.{Slice}
 use Rattle.reference.specs.ArrayOf.{array_of}
 use Rattle.reference.specs.Broadcasts.{Reaches}
 use Rattle.reference.specs.IndicesOf.{indices_of}
-use Rattle.reference.specs.PartsOf.{parts_of}
+use Rattle.semantics.specs.Slices.{parts_of}
 use Rattle.reference.proofs.Replacing.{put_reaches}
 use Rattle.reference.proofs.Slicing.{slices_length, stepping_from}
 use Rattle.reference.proofs.replace.ReplacedSource.number.Goals as goal

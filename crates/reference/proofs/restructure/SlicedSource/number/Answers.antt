@@ -3,7 +3,7 @@ use Rattle.semantics.specs.Shapes.{In}
 use Rattle.semantics.proofs.Places.{inside_in, in_inside}
 use Rattle.semantics.proofs.Inside.{inside_places_of}
 use Rattle.encoding.specs.ShapeOf.{shape_of}
-use Rattle.reference.specs.PartsOf.{parts_of}
+use Rattle.semantics.specs.Slices.{parts_of}
 use Rattle.reference.proofs.restructure.SlicedSource.number.Goals as goal
 
 pub get-requires : goal.get-requires

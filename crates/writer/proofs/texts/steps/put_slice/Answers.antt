@@ -9,16 +9,16 @@ sign_short true = omega arith
 sign_short false = omega arith
 
 pub put_number-sign-requires : goal.put_number-sign-requires
-put_number-sign-requires c = omega (arith, decimal_short c.args.from c.ranges.from.fits)
+put_number-sign-requires c = omega (arith, decimal_short c.args.slice.from (omega arith))
 
 pub put_number-colon-requires : goal.put_number-colon-requires
 put_number-colon-requires c =
-    omega (arith, decimal_short c.args.by c.ranges.by.fits, c.put_number-sign.ensures.short, c.put_bytes-step.ensures.ends, ap length c.sign_before.ensures, sign_short c.args.backward)
+    omega (arith, decimal_short c.args.slice.step (omega arith), c.put_number-sign.ensures.short, c.put_bytes-step.ensures.ends, ap length c.sign_before.ensures, sign_short c.args.slice.backward)
 
 pub returns : goal.returns
 returns c =
-    let sign = laid_as (codes ":" ++ pick c.args.backward (codes "-") []) c.sign_before.ensures c.put_bytes-step.ensures in
+    let sign = laid_as (codes ":" ++ pick c.args.slice.backward (codes "-") []) c.sign_before.ensures c.put_bytes-step.ensures in
     record {
       laid = laid_more (laid_more c.put_number-sign.ensures.laid sign) (laid_more c.put_number-colon.ensures.laid c.put_numbered.ensures.laid);
-      short = omega (arith, c.put_number-sign.ensures.short, sign.ends, sign_short c.args.backward, c.put_number-colon.ensures.short, c.put_numbered.ensures.short);
+      short = omega (arith, c.put_number-sign.ensures.short, sign.ends, sign_short c.args.slice.backward, c.put_number-colon.ensures.short, c.put_numbered.ensures.short);
     }

@@ -1,9 +1,0 @@
-use Rattle.std.proofs.Common.{◌≡◌, ◌+◌, ◌-◌, ◌≤◌, length}
-use Rattle.encoding.specs.Format.{row_at, offsets, stop}
-use Rattle.encoding.proofs.inputs.count_inputs.Given as goal
-
-abbrev pub invariant-loop-at : goal.invariant-loop-at
-invariant-loop-at l = (l.at ≤ length l.bytes) × (l.count ≤ l.at) × (l.count + length (row_at l.bytes l.at).offsets ≡ length (offsets l.bytes)) × ((row_at l.bytes l.at).stop ≡ stop l.bytes)
-
-abbrev pub decreases-loop-at : goal.decreases-loop-at
-decreases-loop-at l = length l.bytes - l.at

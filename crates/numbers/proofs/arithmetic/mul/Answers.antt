@@ -1,9 +1,0 @@
-use Rattle.std.proofs.Common.{refl}
-use lib.Ieee.{binary64, mul}
-use Rattle.numbers.proofs.Values.{on_two}
-use Rattle.numbers.specs.Binary64.{mul_bits}
-use Rattle.numbers.proofs.arithmetic.mul.Goals as goal
-
-pub returns : goal.returns
-unfolding mul_bits
-returns c = on_two (mul binary64) c.args.a c.args.b c.f64_from_bits_with_nan.ensures c.f64_from_bits_with_nan-2.ensures refl c.f64_to_bits_with_nan.ensures

@@ -1,9 +1,0 @@
-use Rattle.std.proofs.Common.{ap, ◌∙◌}
-use lib.Ieee.{lt}
-use Rattle.numbers.proofs.Values.{at_two}
-use Rattle.numbers.specs.Binary64.{flag, less_bits}
-use Rattle.numbers.proofs.compare.less.Goals as goal
-
-pub returns : goal.returns
-unfolding less_bits
-returns c = c.flagged.ensures ∙ ap flag (at_two lt c.args.a c.args.b c.f64_from_bits_with_nan.ensures c.f64_from_bits_with_nan-2.ensures)

@@ -1,5 +1,0 @@
-use Rattle.numbers.proofs.Floated.{made_abs}
-use Rattle.numbers.proofs.floats.abs_float.Goals as goal
-
-pub returns : goal.returns
-returns c = made_abs c.abs.ensures.value

@@ -1,6 +1,0 @@
-use Rattle.std.proofs.Common.{refl}
-use Rattle.numbers.proofs.Floated.{made_div}
-use Rattle.numbers.proofs.floats.div_floats.Goals as goal
-
-pub returns : goal.returns
-returns c = made_div refl

@@ -1,6 +1,0 @@
-use Rattle.std.proofs.Common.{refl}
-use Rattle.numbers.proofs.Floated.{made_neg}
-use Rattle.numbers.proofs.floats.neg_float.Goals as goal
-
-pub returns : goal.returns
-returns c = made_neg refl

@@ -1,7 +1,0 @@
-use Rattle.std.proofs.Common.{◌≡◌, ◌-◌, ◌^◌, min, map, take, vec_items}
-use Rattle.semantics.specs.Programs.{in_names}
-use Rattle.reference.specs.CellsOf.{cell_of}
-use Rattle.reference.proofs.names.holding.held_places.Given as goal
-
-abbrev pub invariant-loop-k : goal.invariant-loop-k
-invariant-loop-k l = l.places ≡ min (in_names (take l.k (map cell_of (vec_items l.names)))) (2 ^ 64 - 1)
