@@ -1,4 +1,4 @@
-use Rattle.std.proofs.Common.{◌≡◌, ℕ, ◌+◌, ◌<◌, ◌≤◌, length, get_or, sym, ap, ◌∙◌, subst, arith, rules, Option, Some, None, MatchOption}
+use Rattle.std.proofs.Common.{◌≡◌, ℕ, ◌+◌, ◌<◌, length, get_or, sym, ap, ◌∙◌, subst, arith, rules, Option, None, MatchOption}
 use Rattle.kernels.proofs.Feeding.{get_d_any}
 use Rattle.memory.specs.Spans.{high_of}
 use Rattle.memory.proofs.Finding.{Under, First, best_takes, best_keeps, best_told}

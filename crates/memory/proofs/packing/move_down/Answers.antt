@@ -1,7 +1,7 @@
 use Rattle.std.proofs.Common.{◌+◌, get_or, ap, ◌∙◌, arith, None}
 use Rattle.kernels.proofs.Feeding.{get_d_any}
 use Rattle.memory.specs.Spans.{low_of, high_of}
-use Rattle.memory.proofs.Moving.{Move, down, span, turn}
+use Rattle.memory.proofs.Moving.{Move, turn}
 use Rattle.memory.proofs.packing.move_down.Goals as goal
 
 move : (c : goal.After-shift_holders) → Move c.args.area.now c.copy_within.new.self c.args.names.now c.shift_holders.new.names c.args.to c.args.k c.low_of-low.result c.high_of-high.result
@@ -21,12 +21,6 @@ move c =
       before = λ i h. c.copy_within.ensures.by_index.1 i 0 h;
       behind = λ i h. c.copy_within.ensures.by_index.2 i 0 h;
     }
-
-pub overflow_sub-result : goal.overflow_sub-result
-overflow_sub-result c = span (move c)
-
-pub overflow_add-result : goal.overflow_add-result
-overflow_add-result c = record { fits = omega (arith, down (move c), span (move c), c.high_of-high.type_inv) }
 
 pub returns : goal.returns
 returns c = turn (move c)

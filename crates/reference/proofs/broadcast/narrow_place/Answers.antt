@@ -1,13 +1,10 @@
-use Rattle.std.proofs.Common.{◌≡◌, ◌+◌, ◌-◌, eqb, length, get_or, take, sym, refl, ap, ◌∙◌, arith}
+use Rattle.std.proofs.Common.{◌≡◌, ◌+◌, ◌-◌, eqb, length, get_or, take, sym, ap, ◌∙◌, arith}
 use Rattle.std.proofs.lemmas.List.{length-take-le, get_or-take}
 use Rattle.semantics.specs.Shapes.{pick}
 use Rattle.semantics.specs.Broadcast.{narrow}
 use Rattle.reference.proofs.Broadcasting.{length_narrow, get_d_narrow}
-use Rattle.encoding.proofs.Filling.{filled_none, filled_more, filled_all}
+use Rattle.encoding.proofs.Filling.{filled_more, filled_all}
 use Rattle.reference.proofs.broadcast.narrow_place.Goals as goal
-
-pub loop-k-init : goal.loop-k-init
-loop-k-init c = filled_none _ _ refl
 
 pub loop-k-preserved : goal.loop-k-preserved
 loop-k-preserved c =

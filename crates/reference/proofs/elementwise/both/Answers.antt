@@ -1,5 +1,4 @@
-use Rattle.std.proofs.Common.{sym, ap, ◌∙◌, subst, arith}
-use Rattle.std.proofs.lemmas.Bool.{false≢true}
+use Rattle.std.proofs.Common.{ap, subst, arith}
 use Rattle.semantics.specs.Shapes.{size, In}
 use Rattle.semantics.specs.Arrays.{both_array}
 use Rattle.semantics.proofs.Inside.{spreads_left, spreads_right}
@@ -7,9 +6,6 @@ use Rattle.encoding.specs.ShapeOf.{shape_of}
 use Rattle.reference.proofs.Broadcasting.{reaches}
 use Rattle.reference.proofs.Tables.{made_shaped}
 use Rattle.reference.proofs.elementwise.both.Goals as goal
-
-pub unreachable-requires : goal.unreachable-requires
-unreachable-requires c = false≢true (sym c.in_default.ensures ∙ c.requires.fits)
 
 pub tabulate-requires : goal.tabulate-requires
 tabulate-requires c =

@@ -1,21 +1,12 @@
-use Rattle.std.proofs.Common.{sym, ap, ◌∙◌, subst, arith}
-use Rattle.std.proofs.lemmas.Bool.{false≢true}
+use Rattle.std.proofs.Common.{ap, ◌∙◌, subst, arith}
 use Rattle.semantics.specs.Shapes.{size, In}
-use Rattle.semantics.specs.Broadcast.{fit, wide}
+use Rattle.semantics.specs.Broadcast.{wide}
 use Rattle.semantics.specs.Arrays.{choose_array}
 use Rattle.semantics.proofs.Inside.{spreads_left_left, spreads_right_left, spreads_right}
 use Rattle.encoding.specs.ShapeOf.{shape_of}
 use Rattle.reference.proofs.Broadcasting.{reaches}
 use Rattle.reference.proofs.Tables.{made_shaped}
 use Rattle.reference.proofs.elementwise.choose.Goals as goal
-
-pub unreachable-requires : goal.unreachable-requires
-unreachable-requires c = false≢true (sym c.in_default.ensures ∙ c.requires.fits)
-
-pub unreachable-requires-in_default-broadcast : goal.unreachable-requires-in_default-broadcast
-unreachable-requires-in_default-broadcast c =
-    let two = c.in-Some.ensures.1 in
-    false≢true (sym c.in_default-broadcast.ensures ∙ (ap (λ s. fit s (shape_of c.args.other.now.shape)) two ∙ c.requires.fits_all))
 
 pub tabulate-requires : goal.tabulate-requires
 tabulate-requires c =

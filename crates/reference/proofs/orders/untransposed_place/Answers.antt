@@ -1,9 +1,9 @@
-use Rattle.std.proofs.Common.{◌≡◌, ◌<◌, length, get_or, take, sym, refl, ap, ◌∙◌, arith}
+use Rattle.std.proofs.Common.{◌≡◌, ◌<◌, length, get_or, take, sym, ap, ◌∙◌, arith}
 use Rattle.std.proofs.lemmas.List.{length-take-le, get_or-take}
 use Rattle.semantics.specs.Orders.{where_in}
 use Rattle.semantics.proofs.Orders.{ordered, length_turned_back, get_d_turned_back}
 use Rattle.reference.specs.IndicesOf.{indices_of}
-use Rattle.encoding.proofs.Filling.{filled_none, filled_more, filled_all}
+use Rattle.encoding.proofs.Filling.{filled_more, filled_all}
 use Rattle.reference.proofs.orders.untransposed_place.Goals as goal
 
 pub offset_bounds-place-find_axis : goal.offset_bounds-place-find_axis
@@ -19,9 +19,6 @@ bounds-place-find_axis c =
     let long : length (indices_of p) ≡ p.rank = length-take-le p.rank p.indices (omega arith) in
     let o = ordered c.args.order.now (length (indices_of p)) c.requires.order in
     omega (arith, o.found_below c.loop-k.k (omega arith))
-
-pub loop-k-init : goal.loop-k-init
-loop-k-init c = filled_none _ _ refl
 
 pub loop-k-preserved : goal.loop-k-preserved
 loop-k-preserved c =

@@ -1,4 +1,4 @@
-use Rattle.std.proofs.Common.{◌<◌, ◌≤◌, ◌++◌, length, get_or, take, vec_items, sym, ap, ◌∙◌, append_assoc, append-nil, arith}
+use Rattle.std.proofs.Common.{◌<◌, ◌≤◌, ◌++◌, length, get_or, take, vec_items, ap, ◌∙◌, append_assoc, arith}
 use Rattle.std.proofs.lemmas.List.{take_all}
 use Rattle.std.specs.List.{flat_map}
 use Rattle.encoding.specs.ShapeOf.{shape_of}
@@ -6,9 +6,6 @@ use Rattle.encoding.specs.Words.{bytes8}
 use Rattle.encoding.specs.Writing.{head_bytes, number_bytes, array_bytes}
 use Rattle.encoding.proofs.Writings.{joined_push}
 use Rattle.reference.proofs.output.encode.Goals as goal
-
-pub loop-number-init : goal.loop-number-init
-loop-number-init c = c.in_ok-out.ensures ∙ sym (append-nil _)
 
 pub loop-number-preserved : goal.loop-number-preserved
 unfolding bytes8

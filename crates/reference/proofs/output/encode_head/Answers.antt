@@ -1,4 +1,4 @@
-use Rattle.std.proofs.Common.{◌≡◌, ◌<◌, ◌≤◌, [], ◌∷◌, ◌++◌, length, get_or, vec_items, sym, ap, ◌∙◌, arith}
+use Rattle.std.proofs.Common.{◌≡◌, ◌<◌, ◌≤◌, ◌∷◌, ◌++◌, length, get_or, vec_items, sym, ap, ◌∙◌, arith}
 use Rattle.std.proofs.lemmas.List.{length-take-le, take_all}
 use Rattle.std.specs.List.{flat_map}
 use Rattle.encoding.specs.ShapeOf.{shape_of}
@@ -6,9 +6,6 @@ use Rattle.encoding.specs.Words.{bytes4}
 use Rattle.encoding.specs.Writing.{head_bytes}
 use Rattle.encoding.proofs.Writings.{joined_push}
 use Rattle.reference.proofs.output.encode_head.Goals as goal
-
-pub loop-len-init : goal.loop-len-init
-loop-len-init c = c.in_ok-push.ensures.items ∙ ap (λ l. l ++ c.args.shape.rank ∷ []) c.new-out.ensures.items
 
 pub loop-len-preserved : goal.loop-len-preserved
 unfolding bytes4

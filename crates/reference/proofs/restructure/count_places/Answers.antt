@@ -1,5 +1,4 @@
-use Rattle.std.proofs.Common.{◌-◌, ◌^◌, ◌<◌, min, length, take, refl, ap, ◌∙◌, arith}
-use Rattle.std.proofs.lemmas.List.{take_all}
+use Rattle.std.proofs.Common.{◌<◌, length, take, refl, arith}
 use Rattle.semantics.specs.Shapes.{size}
 use Rattle.encoding.proofs.Sizes.{size_more, min_mul_capped}
 use Rattle.reference.proofs.restructure.count_places.Goals as goal
@@ -14,8 +13,3 @@ loop-len-preserved c =
     let more = size_more c.args.lens.now c.loop-len.len-index inside in
     let capped = min_mul_capped (size (take c.loop-len.len-index c.args.lens.now)) c.from.result 18446744073709551615 in
     cc
-
-pub returns : goal.returns
-returns c =
-    let all = take_all c.loop-len.len-index c.args.lens.now c.loop-len-test.false in
-    c.loop-len.invariant ∙ ap (λ xs. min (size xs) (2 ^ 64 - 1)) all

@@ -1,4 +1,4 @@
-use Rattle.std.proofs.Common.{◌≡◌, ◌≤◌, true, false, List, length, get_or, take, sym, refl, ap, ◌∙◌, arith}
+use Rattle.std.proofs.Common.{◌≡◌, ◌≤◌, true, false, List, length, get_or, take, sym, ap, ◌∙◌, arith}
 use Rattle.std.proofs.lemmas.List.{length-take-le, get_or-take}
 use Rattle.semantics.specs.Shapes.{In}
 use Rattle.semantics.specs.Parts.{place_of, part_fits, parts_fit, part_shape}
@@ -9,7 +9,7 @@ use Rattle.reference.specs.declared.place.Place.{Place}
 use Rattle.semantics.specs.declared.slice.Slice.{Slice}
 use Rattle.reference.specs.IndicesOf.{indices_of}
 use Rattle.semantics.specs.Slices.{part_of, parts_of}
-use Rattle.encoding.proofs.Filling.{filled_none, filled_more, filled_all}
+use Rattle.encoding.proofs.Filling.{filled_more, filled_all}
 use Rattle.encoding.proofs.Parting.{length_part_shape, get_d_part_shape}
 use Rattle.reference.proofs.Slicing.{slices_length, fits_at, length_places_of, get_d_places_of}
 use Rattle.reference.proofs.slices.sliced_place.Goals as goal
@@ -39,9 +39,6 @@ bounds-place-k c = omega (arith, slices_rank c.args.slices.now c.args.shape.now 
 
 pub bounds-indices-k : goal.bounds-indices-k
 bounds-indices-k c = omega (arith, slices_rank c.args.slices.now c.args.shape.now c.args.place.now (omega arith) (omega arith) c.requires.fits c.requires.inside)
-
-pub loop-k-init : goal.loop-k-init
-loop-k-init c = filled_none _ _ refl
 
 pub sliced_index-requires : goal.sliced_index-requires
 sliced_index-requires c =

@@ -1,10 +1,10 @@
-use Rattle.std.proofs.Common.{◌≡◌, ◌/◌, false, length, get_or, take, sym, refl, ap, ◌∙◌, arith}
+use Rattle.std.proofs.Common.{◌≡◌, ◌/◌, false, length, get_or, take, sym, ap, ◌∙◌, arith}
 use Rattle.std.proofs.lemmas.List.{length-take-le, get_or-take}
 use Rattle.semantics.specs.Parts.{apart}
 use Rattle.semantics.specs.declared.slice.Slice.{Slice}
 use Rattle.reference.specs.IndicesOf.{indices_of}
 use Rattle.semantics.specs.Slices.{part_of}
-use Rattle.encoding.proofs.Filling.{filled_none, filled_more, filled_all}
+use Rattle.encoding.proofs.Filling.{filled_more, filled_all}
 use Rattle.reference.proofs.Slicing.{stepping_at, length_which_one, get_d_which_one}
 use Rattle.reference.proofs.slices.unsliced_place.Goals as goal
 
@@ -14,9 +14,6 @@ none = record { from = 0; backward = false; step = 0; many = 0 }
 
 pub nonzero_div-indices : goal.nonzero_div-indices
 nonzero_div-indices c = stepping_at none c.args.slices.now c.loop-k.k c.requires.steps c.loop-k-test.true
-
-pub loop-k-init : goal.loop-k-init
-loop-k-init c = filled_none _ _ refl
 
 pub loop-k-preserved : goal.loop-k-preserved
 loop-k-preserved c =

@@ -54,14 +54,3 @@ get-requires-2 c =
     let at = c.row_place.ensures ∙ ap (λ n. c.index-row.result ∷ drop n is) c.rank-front.ensures in
     let below : c.index-row.result < get_or s 0 0 = omega arith in
     record { inside = subst (λ js. In s js) (sym at) (in_inside (inside_row c.index-row.result s t is c.requires.0 below (inside_in _ _ c.requires.2))) }
-
-pub returns : goal.returns
-returns c =
-    let a = c.args.self.now.array.now in
-    let b = c.args.self.now.rows.now in
-    let is = indices_of c.args.place.now in
-    let t = shape_of b.shape in
-    let front = c.first_axes.ensures ∙ ap (λ n. take n is) c.rank-front.ensures in
-    let row = c.index-row.ensures ∙ ap (λ x. binary64.index x) (c.get.ensures ∙ ap (λ js. (array_of b).at js) front) in
-    let at = c.row_place.ensures ∙ (ap (λ n. c.index-row.result ∷ drop n is) c.rank-front.ensures ∙ ap (λ i. i ∷ drop (length t) is) row) in
-    c.get-2.ensures ∙ ap (λ js. (array_of a).at js) at

@@ -1,10 +1,6 @@
-use Rattle.std.proofs.Common.{◌≡◌, suc, ◌+◌, ◌<◌, get_or, set, ap, ◌∙◌, arith}
-use Rattle.semantics.specs.Arrays.{folded}
+use Rattle.std.proofs.Common.{◌<◌, get_or, arith}
 use Rattle.semantics.proofs.Places.{inside_in, in_inside, length_inside, get_d_inside}
-use Rattle.numbers.specs.Operations.{binary64}
 use Rattle.encoding.specs.ShapeOf.{shape_of}
-use Rattle.reference.specs.ArrayOf.{array_of}
-use Rattle.reference.specs.IndicesOf.{indices_of}
 use Rattle.reference.proofs.Axes.{inside_along}
 use Rattle.reference.proofs.reduce.ScannedSource.number.Goals as goal
 
@@ -22,12 +18,3 @@ accumulate-requires c =
       there = omega (arith, c.requires.0, length_inside i);
       inside = λ j h. let l : j < get_or s x 0 = omega arith in in_inside (inside_along x j i l);
     }
-
-pub returns : goal.returns
-returns c =
-    let x = c.args.self.now.axis in
-    let is = indices_of c.args.place.now in
-    let f = binary64.two c.args.self.now.op in
-    let e = binary64.empty c.args.self.now.op in
-    let count : c.from.result + 1 ≡ suc (get_or is x 0) = omega arith in
-    c.accumulate.ensures ∙ ap (folded f e (λ j. (array_of c.args.self.now.array.now).at (set is x j))) count

@@ -1,11 +1,8 @@
 use Rattle.std.proofs.Common.{Err, arith}
 use Rattle.program.proofs.Nodes.{again_body}
 use Rattle.program.proofs.Closings.{closes_at, again_closed}
-use Rattle.reference.proofs.Lining.{lines_start, lines_closed, lines_over, lines_more, lines_stop, rounds_none, rounds_more, rounds_stop, rounds_all, lines_then, lines_then_run, lines_exit, plain_other, line_there}
+use Rattle.reference.proofs.Lining.{lines_start, lines_closed, lines_over, lines_more, lines_stop, rounds_none, rounds_more, rounds_stop, rounds_all, lines_then, lines_then_run, lines_exit, line_there}
 use Rattle.reference.proofs.task.Task.+run_lines.Goals as goal
-
-pub loop-step-init : goal.loop-step-init
-loop-step-init t c = lines_start c.args.self.now.words.now c.args.self.now.inputs.now c.args.self.now.places c.args.node c.args.state.now c.requires.runs c.requires.fits
 
 pub returns-in-End : goal.returns-in-End
 returns-in-End t c = record { fits = c.loop-step.invariant.fits; lines = lines_closed c.args.self.now.words.now c.args.self.now.inputs.now c.args.self.now.places c.args.node c.loop-step.at c.args.state.now c.loop-step.state c.loop-step.invariant c.in-Some.step c.in-Some.ensures c.in-End.is }
@@ -46,11 +43,6 @@ loop-step-preserved-in-Again t c =
     let e = c.in-Some-find_end.ensures in
     lines_then c.args.self.now.words.now c.args.self.now.inputs.now c.args.self.now.places c.args.node c.loop-step.at c.args.state.now c.loop-step.state c.loop-step.invariant c.in-Some-find_end.behind c.loop-i.state
     (rounds_all c.args.self.now.words.now c.args.self.now.inputs.now c.args.self.now.places c.loop-step.at c.loop-step.at c.in-Again.count c.loop-step.state c.in-Some.step c.in-Some.ensures c.in-Again.is c.loop-i.i c.loop-i.state c.in-Some-find_end.behind c.loop-i-test.false (omega arith) c.loop-step.invariant.runs (closes_at c.args.self.now.words.now _ c.in-Some-find_end.behind e) (omega (arith, e.further)) c.loop-i.invariant)
-
--- ---- another line
-pub run_line-requires : goal.run_line-requires
-run_line-requires t c =
-    record { runs = c.loop-step.invariant.runs; at = c.in-Some.ensures; plain = plain_other c.in-Some.step c.in_default-step.not-End c.in_default-step.not-Again; fits = c.loop-step.invariant.fits }
 
 pub returns-in_err-at-in_default-step : goal.returns-in_err-at-in_default-step
 returns-in_err-at-in_default-step t c =

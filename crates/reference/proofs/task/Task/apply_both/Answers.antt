@@ -23,12 +23,6 @@ returns-in_err-count c =
     (right_if _ _ _ w.0
     (right_too_many c.args.self.now.places c.args.taken (both_array binary64 c.args.op (array_of c.args.first.now) (array_of c.args.second.now)) (omega (arith, c.in_err-count.ensures.1, ap size w.1))))
 
-pub both-requires : goal.both-requires
-both-requires c =
-    let w = rw c.in_ok-shape.ensures.ok_part at c.broadcast.ensures in
-    let n = c.in_ok-count.ensures in
-    record { fits = w.0; small = omega (arith, n.0, n.1, ap size w.1, c.args.self.now.few) }
-
 pub returns : goal.returns
 unfolding on_both both_array
 returns c =

@@ -40,14 +40,6 @@ returns-in_err-count c =
     (right_if _ _ _ (and_from _ _ first.0 w.0)
     (right_too_many c.args.self.now.places c.args.taken (choose_array binary64 (array_of c.args.test.now) (array_of c.args.yes.now) (array_of c.args.other.now)) (omega (arith, c.in_err-count.ensures.1, ap size w.1))))
 
-pub choose-requires : goal.choose-requires
-choose-requires c =
-    let first = rw c.in_ok-two.ensures.ok_part at c.broadcast.ensures in
-    let second = rw c.in_ok-shape.ensures.ok_part at c.broadcast-2.ensures in
-    let w = wider (shape_of c.args.test.now.shape) (shape_of c.args.yes.now.shape) (shape_of c.args.other.now.shape) first.1 second in
-    let n = c.in_ok-count.ensures in
-    record { fits = first.0; fits_all = w.0; small = omega (arith, n.0, n.1, ap size w.1, c.args.self.now.few) }
-
 pub returns : goal.returns
 unfolding on_choose choose_array
 returns c =

@@ -1,5 +1,4 @@
 use Rattle.std.proofs.Common.{sym, refl, ap, arith}
-use Rattle.std.proofs.lemmas.Bool.{ltb-true}
 use Rattle.semantics.specs.Shapes.{size}
 use Rattle.semantics.specs.Arrays.{fold_array}
 use Rattle.semantics.specs.Values.{on_fold}
@@ -13,20 +12,12 @@ pub returns-then-not-has_axis : goal.returns-then-not-has_axis
 unfolding on_fold
 returns-then-not-has_axis c = right_else _ _ _ (sym c.if-not-has_axis.ensures) (right_fault refl)
 
-pub remove_axis-shape-requires : goal.remove_axis-shape-requires
-remove_axis-shape-requires c = record { there = ltb-true _ _ (sym c.if-not-has_axis.ensures) }
-
 pub returns-in_err-count : goal.returns-in_err-count
 unfolding on_fold fold_array
 returns-in_err-count c =
     right_refusal c.from_residual.result c.from_residual.ensures.1 c.in_err-count.ensures.0
     (right_if _ _ _ (sym c.if-not-has_axis.ensures)
     (right_too_many c.args.self.now.places c.args.taken (fold_array binary64 c.args.op c.args.axis (array_of c.args.array.now)) (omega (arith, c.in_err-count.ensures.1, ap size c.remove_axis-shape.ensures))))
-
-pub fold-requires : goal.fold-requires
-fold-requires c =
-    let n = c.in_ok-count.ensures in
-    record { there = ltb-true _ _ (sym c.if-not-has_axis.ensures); small = omega (arith, n.0, n.1, ap size c.remove_axis-shape.ensures, c.args.self.now.few) }
 
 pub returns : goal.returns
 unfolding on_fold fold_array

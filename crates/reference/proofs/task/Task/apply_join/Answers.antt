@@ -1,5 +1,4 @@
 use Rattle.std.proofs.Common.{sym, refl, ap, arith}
-use Rattle.std.proofs.lemmas.Bool.{ltb-true}
 use Rattle.semantics.specs.Shapes.{size}
 use Rattle.semantics.specs.Arrays.{join_array}
 use Rattle.semantics.specs.Values.{on_join}
@@ -12,16 +11,10 @@ pub returns-then-not-has_axis : goal.returns-then-not-has_axis
 unfolding on_join
 returns-then-not-has_axis c = right_else _ _ _ (sym c.if-not-has_axis.ensures) (right_fault refl)
 
-pub joinable-requires : goal.joinable-requires
-joinable-requires c = record { there = ltb-true _ _ (sym c.if-not-has_axis.ensures) }
-
 pub returns-then-not-joinable : goal.returns-then-not-joinable
 unfolding on_join
 returns-then-not-joinable c =
     right_if _ _ _ (sym c.if-not-has_axis.ensures) (right_else _ _ _ (sym c.if-not-joinable.ensures) (right_fault refl))
-
-pub joined_shape-shape-requires : goal.joined_shape-shape-requires
-joined_shape-shape-requires c = record { there = ltb-true _ _ (sym c.if-not-has_axis.ensures); fits = sym c.if-not-joinable.ensures }
 
 pub returns-in_err-count : goal.returns-in_err-count
 unfolding on_join join_array
@@ -30,11 +23,6 @@ returns-in_err-count c =
     (right_if _ _ _ (sym c.if-not-has_axis.ensures)
     (right_if _ _ _ (sym c.if-not-joinable.ensures)
     (right_too_many c.args.self.now.places c.args.taken (join_array c.args.axis (array_of c.args.first.now) (array_of c.args.second.now)) (omega (arith, c.in_err-count.ensures.1, ap size c.joined_shape-shape.ensures)))))
-
-pub join-requires : goal.join-requires
-join-requires c =
-    let n = c.in_ok-count.ensures in
-    record { there = ltb-true _ _ (sym c.if-not-has_axis.ensures); fits = sym c.if-not-joinable.ensures; small = omega (arith, n.0, n.1, ap size c.joined_shape-shape.ensures, c.args.self.now.few) }
 
 pub returns : goal.returns
 unfolding on_join join_array

@@ -1,5 +1,5 @@
-use Rattle.std.proofs.Common.{◌≤◌, length, Ok, sym, refl, ap, ◌∙◌, subst, arith}
-use Rattle.std.proofs.lemmas.Bool.{and_parts, eqb-true, lt-leb, le-leb}
+use Rattle.std.proofs.Common.{◌≤◌, length, Ok, sym, refl, ap, subst, arith}
+use Rattle.std.proofs.lemmas.Bool.{lt-leb, le-leb}
 use Rattle.semantics.specs.Shapes.{size}
 use Rattle.semantics.specs.Arrays.{shape_array}
 use Rattle.semantics.specs.Values.{made, on_shape}
@@ -30,11 +30,6 @@ returns-in_err-count c p =
     (right_if _ _ _ (sym c.if-not-sizes_match.ensures)
     (right_if _ _ _ (le-leb _ _ few)
     (right_too_many c.args.self.now.places c.args.taken (shape_array c.args.lens.now (array_of c.args.array.now)) (omega (arith, c.in_err-count.ensures.1, ap size s)))))
-
-pub reshape-requires : goal.reshape-requires
-reshape-requires c =
-    let s = rw c.in_ok-shape.ensures.ok_part at c.new.ensures in
-    record { full = ap size s ∙ eqb-true _ _ (and_parts _ _ (sym c.if-not-sizes_match.ensures)).0 }
 
 pub returns : goal.returns
 unfolding on_shape shape_array

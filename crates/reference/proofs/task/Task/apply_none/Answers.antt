@@ -2,12 +2,8 @@ use Rattle.std.proofs.Common.{subst}
 use Rattle.encoding.specs.Format.{inputs_of}
 use Rattle.reference.specs.CellsOf.{cells_of}
 use Rattle.reference.specs.Operands.{Leaf}
-use Rattle.reference.proofs.Operating.{at_name, at_input, at_constant, at_count, no_other_leaf}
+use Rattle.reference.proofs.Operating.{at_name, at_input, at_constant, at_count}
 use Rattle.reference.proofs.task.Task.apply_none.Goals as goal
-
-pub unreachable-requires : goal.unreachable-requires
-unreachable-requires c =
-    no_other_leaf c.requires.leaf.1 c.in_default.not-Name c.in_default.not-Input c.in_default.not-Constant c.in_default.not-Count
 
 pub returns-in-Name : goal.returns-in-Name
 returns-in-Name c p e l =

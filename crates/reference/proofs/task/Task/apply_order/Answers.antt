@@ -11,20 +11,12 @@ pub returns-then-not-is_order : goal.returns-then-not-is_order
 unfolding on_turn
 returns-then-not-is_order c = right_else _ _ _ (rw c.rank.ensures at (sym c.if-not-is_order.ensures)) (right_fault refl)
 
-pub transposed-shape-requires : goal.transposed-shape-requires
-transposed-shape-requires c = rw c.rank.ensures at (sym c.if-not-is_order.ensures)
-
 pub returns-in_err-count : goal.returns-in_err-count
 unfolding on_turn turn_array
 returns-in_err-count c =
     right_refusal c.from_residual.result c.from_residual.ensures.1 c.in_err-count.ensures.0
     (right_if _ _ _ (rw c.rank.ensures at (sym c.if-not-is_order.ensures))
     (right_too_many c.args.self.now.places c.args.taken (turn_array c.args.order.now (array_of c.args.array.now)) (omega (arith, c.in_err-count.ensures.1, ap size c.transposed-shape.ensures))))
-
-pub turn-requires : goal.turn-requires
-turn-requires c =
-    let n = c.in_ok-count.ensures in
-    record { order = rw c.rank.ensures at (sym c.if-not-is_order.ensures); small = omega (arith, n.0, n.1, ap size c.transposed-shape.ensures, c.args.self.now.few) }
 
 pub returns : goal.returns
 unfolding on_turn turn_array

@@ -1,5 +1,5 @@
 use Rattle.std.proofs.Common.{◌≤◌, ◌++◌, length, drop, sym, refl, ap, arith}
-use Rattle.std.proofs.lemmas.Bool.{ltb-true, lt-leb, le-leb}
+use Rattle.std.proofs.lemmas.Bool.{lt-leb, le-leb}
 use Rattle.semantics.specs.Shapes.{size}
 use Rattle.semantics.specs.Arrays.{rows_array}
 use Rattle.semantics.specs.Values.{on_rows}
@@ -15,16 +15,10 @@ pub returns-then-not-has_axis : goal.returns-then-not-has_axis
 unfolding on_rows
 returns-then-not-has_axis c p = right_else _ _ _ (sym c.if-not-has_axis.ensures) (right_fault refl)
 
-pub rows_exist-requires : goal.rows_exist-requires
-rows_exist-requires c = record { axes = ltb-true _ _ (sym c.if-not-has_axis.ensures) }
-
 pub returns-then-not-rows_exist : goal.returns-then-not-rows_exist
 unfolding on_rows
 returns-then-not-rows_exist c p =
     right_if _ _ _ (sym c.if-not-has_axis.ensures) (right_else _ _ _ (sym c.if-not-rows_exist.ensures) (right_fault refl))
-
-pub gathered_shape-requires : goal.gathered_shape-requires
-gathered_shape-requires c = record { axes = ltb-true _ _ (sym c.if-not-has_axis.ensures) }
 
 pub returns-in_err-shape : goal.returns-in_err-shape
 unfolding on_rows rows_array
@@ -44,12 +38,6 @@ returns-in_err-count c p =
     (right_if _ _ _ (sym c.if-not-rows_exist.ensures)
     (right_if _ _ _ (le-leb _ _ few)
     (right_too_many c.args.self.now.places c.args.taken (rows_array binary64 (array_of c.args.array.now) (array_of c.args.found.now)) (omega (arith, c.in_err-count.ensures.1, ap size s))))))
-
-pub rows-requires : goal.rows-requires
-rows-requires c =
-    let s = rw c.in_ok-shape.ensures.ok_part at c.gathered_shape.ensures in
-    let n = c.in_ok-count.ensures in
-    record { axes = ltb-true _ _ (sym c.if-not-has_axis.ensures); there = sym c.if-not-rows_exist.ensures; few = omega (arith, ap length s, length_shape c.in_ok-shape.shape); small = omega (arith, n.0, n.1, ap size s, c.args.self.now.few) }
 
 pub returns : goal.returns
 unfolding on_rows rows_array

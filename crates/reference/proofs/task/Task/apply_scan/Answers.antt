@@ -1,5 +1,4 @@
-use Rattle.std.proofs.Common.{sym, refl, arith}
-use Rattle.std.proofs.lemmas.Bool.{ltb-true}
+use Rattle.std.proofs.Common.{sym, refl}
 use Rattle.semantics.specs.Arrays.{scan_array}
 use Rattle.semantics.specs.Values.{on_scan}
 use Rattle.numbers.specs.Operations.{binary64}
@@ -18,11 +17,6 @@ returns-in_err-count c =
     right_refusal c.from_residual.result c.from_residual.ensures.1 c.in_err-count.ensures.0
     (right_if _ _ _ (sym c.if-not-has_axis.ensures)
     (right_too_many c.args.self.now.places c.args.taken (scan_array binary64 c.args.op c.args.axis (array_of c.args.array.now)) c.in_err-count.ensures.1))
-
-pub scan-requires : goal.scan-requires
-scan-requires c =
-    let n = c.in_ok-count.ensures in
-    record { there = ltb-true _ _ (sym c.if-not-has_axis.ensures); small = omega (arith, n.0, n.1, c.args.self.now.few) }
 
 pub returns : goal.returns
 unfolding on_scan scan_array

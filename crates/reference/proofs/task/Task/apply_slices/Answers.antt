@@ -25,11 +25,6 @@ returns-in_err-count c =
     (right_if _ _ _ (sym c.if-not-slices_fit.ensures)
     (right_too_many c.args.self.now.places c.args.taken (part_array (parts_of c.args.list.now) (array_of c.args.array.now)) (omega (arith, c.in_err-count.ensures.1, ap size c.slice_shape-shape.ensures))))
 
-pub part-requires : goal.part-requires
-part-requires c =
-    let n = c.in_ok-count.ensures in
-    record { fits = sym c.if-not-slices_fit.ensures; small = omega (arith, n.0, n.1, ap size c.slice_shape-shape.ensures, c.args.self.now.few) }
-
 pub returns : goal.returns
 unfolding on_part part_array
 returns c =

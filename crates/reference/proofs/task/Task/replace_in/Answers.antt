@@ -25,9 +25,6 @@ pub returns-then-not-replaceable : goal.returns-then-not-replaceable
 returns-then-not-replaceable c k =
     record { small = tt; skips = tt; right = λ e s t d h l m. replace_apart t k (parts_of c.args.list.now) c.args.old.now m (c.in_ok-v.ensures.right e s t h l) (sym c.if-not-slices_fit.ensures) (sym c.if-not-replaceable.ensures) }
 
-pub put-requires : goal.put-requires
-put-requires c = record { fits = sym c.if-not-slices_fit.ensures; can = sym c.if-not-replaceable.ensures; small = c.requires.fits }
-
 pub returns : goal.returns
 returns c k =
     record {

@@ -1,4 +1,4 @@
-use Rattle.std.proofs.Common.{get_or, Ok, Err, ap, ◌∙◌, subst, arith}
+use Rattle.std.proofs.Common.{get_or, Ok, Err, ap, ◌∙◌, subst}
 use Rattle.std.proofs.lemmas.Result.{IfOk-from_err}
 use Rattle.semantics.specs.Values.{none}
 use Rattle.semantics.specs.Programs.{value_in, is_put}
@@ -20,11 +20,6 @@ returns-in_err-list c =
       right = λ ps e s t h l. went_exit _ _ c.from_residual.result Memory c.from_residual.ensures.1 (put_stop t c.args.state.now l c.args.name (since_is_put t c.args.name ps _ _) replaces_wanting);
     }
 
-pub replace_name-requires : goal.replace_name-requires
-replace_name-requires c =
-    let st = c.requires.stands in
-    record { stands = record { expr = st.expr; rest = st.rest; enc = c.skip_brackets-operand.ensures.past_slices st.parts st.expr st.rest st.enc }; fits = c.requires.fits }
-
 pub returns-in_err-v : goal.returns-in_err-v
 returns-in_err-v c =
     record {
@@ -37,9 +32,6 @@ returns-in_err-v c =
           went_exit _ _ c.from_residual-in_err-v.result c.in_err-v.field-0.0 c.from_residual-in_err-v.ensures.1
           (put_stop t c.args.state.now l c.args.name (since_is_put t c.args.name ps _ _) (subst (λ qs. Replaces t (is_put t c.args.name qs (get_or t.names c.args.name none) V) c.args.name (Err c.in_err-v.field-0.0)) is r));
     }
-
-pub unreachable-requires : goal.unreachable-requires
-unreachable-requires c = omega (arith, c.in_ok-v.ensures.there, c.in_default.ensures.0)
 
 pub returns : goal.returns
 returns c =
