@@ -1,7 +1,7 @@
 -- Orders of axes: which axes are there.
-use Rattle.std.proofs.Common.{◌≡◌, ℕ, zero, suc, ◌+◌, Bool, true, false, ◌&&◌, ◌||◌, eqb, List, [], ◌∷◌, length, refl, ap, ◌∙◌, arith}
+use Rattle.std.proofs.Common.{◌≡◌, ℕ, zero, suc, ◌+◌, ◌<◌, Bool, true, false, ◌&&◌, ◌||◌, eqb, List, [], ◌∷◌, length, refl, ap, ◌∙◌, arith}
 use Rattle.std.specs.List.{list_any, list_all, range_with_len}
-use Rattle.std.proofs.lemmas.Bool.{and_left, eq-eqb, ne_eqb}
+use Rattle.std.proofs.lemmas.Bool.{and_left, eq-eqb, ne_eqb, and_right}
 use Rattle.semantics.specs.Orders.{among, all_among, is_order}
 
 pub any_among : (x : ℕ) (os : List ℕ) → list_any (λ o. eqb x o) os ≡ among x os
@@ -35,3 +35,13 @@ order_counted os r e = ap (λ b. b && all_among r os) (eq-eqb (length os) r e)
 pub order_other : (os : List ℕ) (r : ℕ) → (length os ≡ r → ⊥) → is_order os r ≡ false
 unfolding is_order
 order_other os r n = and_left _ _ (ne_eqb (length os) r n)
+
+-- an axis that is not there
+all_among_none : (r k : ℕ) (os : List ℕ) → among k os ≡ false → k < r → all_among r os ≡ false
+unfolding all_among
+all_among_none zero k os e l = absurd (omega arith)
+all_among_none (suc r) k os e l = let more = all_among_none r k os e in grind arith
+
+pub order_none : (os : List ℕ) (r k : ℕ) → among k os ≡ false → k < r → is_order os r ≡ false
+unfolding is_order
+order_none os r k e l = and_right _ _ (all_among_none r k os e l)

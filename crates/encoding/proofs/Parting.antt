@@ -15,7 +15,7 @@ all_parts_fit [] (d ∷ s) e = absurd (omega arith)
 all_parts_fit (x ∷ xs) [] e = absurd (omega arith)
 all_parts_fit (x ∷ xs) (d ∷ s) e = ap (λ b. part_fits (part_of x) d && b) (all_parts_fit xs s (omega arith))
 
-parts_fit_other : (ps : List Part) (s : List ℕ) → (length ps ≡ length s → ⊥) → parts_fit ps s ≡ false
+pub parts_fit_other : (ps : List Part) (s : List ℕ) → (length ps ≡ length s → ⊥) → parts_fit ps s ≡ false
 unfolding parts_fit
 parts_fit_other [] [] h = absurd (h refl)
 parts_fit_other [] (d ∷ s) h = refl

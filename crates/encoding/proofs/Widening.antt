@@ -1,6 +1,7 @@
 -- Shapes that are broadcast, length by length from the last on.
 use Rattle.std.proofs.Common.{◌≡◌, ℕ, zero, suc, ◌+◌, ◌-◌, ◌<◌, ◌≤◌, max, Bool, true, false, ◌&&◌, ◌||◌, eqb, ◌≢◌, List, [], ◌∷◌, reverse, length, get_or, take, set, sym, refl, ap, ◌∙◌, arith, length-set, below_more}
 use Rattle.std.proofs.lemmas.List.{length-reverse, get_or-reverse, get_or_default, ext_get_or, get_or-take, length-take-le, get_or-set_same, get_or-set_other}
+use Rattle.std.proofs.lemmas.Bool.{and_from, and_left, and_right}
 use Rattle.std.specs.List.{list_all, zip}
 use Rattle.semantics.specs.Shapes.{pick}
 use Rattle.semantics.specs.Broadcast.{joins, joined, fit, wide}
@@ -75,3 +76,29 @@ module _ (s t lens : List ℕ) (rank : ℕ) where
 pub fits_zip : (s t : List ℕ) → list_all (λ p. fits_one p.0 p.1) (zip (reverse s) (reverse t)) ≡ fit s t
 unfolding fit
 fits_zip s t = joins_zip (reverse s) (reverse t)
+
+-- ---- one axis after the other, from the last on
+fits_first : (b : ℕ) → fits_one 1 b ≡ true
+fits_first b = grind arith
+
+fits_second : (a : ℕ) → fits_one a 1 ≡ true
+fits_second a = grind arith
+
+pub joins_all : (n : ℕ) (s t : List ℕ) → length s ≤ n → length t ≤ n → ((j : ℕ) → j < n → fits_one (get_or s j 1) (get_or t j 1) ≡ true) → joins s t ≡ true
+unfolding joins
+joins_all n [] t l m h = refl
+joins_all n (a ∷ s) [] l m h = refl
+joins_all n (a ∷ s) (b ∷ t) l m h =
+    and_from _ _ (h 0 (omega arith)) (joins_all (n - 1) s t (omega arith) (omega arith) (λ j k. h (suc j) (omega arith)))
+
+pub joins_none : (k : ℕ) (s t : List ℕ) → fits_one (get_or s k 1) (get_or t k 1) ≡ false → joins s t ≡ false
+unfolding joins
+joins_none k [] t e = sym (fits_first (get_or t k 1)) ∙ e
+joins_none k (a ∷ s) [] e = sym (fits_second (get_or (a ∷ s) k 1)) ∙ e
+joins_none zero (a ∷ s) (b ∷ t) e = and_left _ _ e
+joins_none (suc k) (a ∷ s) (b ∷ t) e = and_right _ _ (joins_none k s t e)
+
+pub not_widened : (s t : List ℕ) (k a b : ℕ) → a ≡ get_or (reverse s) k 1 → b ≡ get_or (reverse t) k 1 → fits_one a b ≡ false → fit s t ≡ false
+unfolding fit
+not_widened s t k a b p q e =
+    joins_none k (reverse s) (reverse t) (ap (λ x. fits_one x (get_or (reverse t) k 1)) (sym p) ∙ (ap (λ x. fits_one a x) (sym q) ∙ e))
