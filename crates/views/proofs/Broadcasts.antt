@@ -1,9 +1,10 @@
 -- Shapes under each other, and strides of a wider shape.
-use Rattle.std.proofs.Common.{◌≡◌, ℕ, zero, suc, ◌+◌, ◌-◌, ◌<◌, ◌≤◌, Bool, true, false, eqb, List, [], ◌∷◌, ◌++◌, length, get_or, take, drop, set, replicate, ℤ, pos, ◌+ℤ◌, ◌*ℤ◌, sym, refl, ap, ◌∙◌, subst, ap₂, add-zero, add_assoc, add-one, arith, length-append}
+use Rattle.std.proofs.Common.{◌≡◌, ℕ, zero, suc, ◌+◌, ◌-◌, ◌<◌, ◌≤◌, Bool, true, false, ◌&&◌, ◌||◌, eqb, ◌≢◌, List, [], ◌∷◌, ◌++◌, reverse, length, get_or, take, drop, set, replicate, ℤ, pos, ◌+ℤ◌, ◌*ℤ◌, sym, refl, ap, ◌∙◌, subst, ap₂, ⊎_elim, add-zero, add_assoc, add-one, arith, length-append, below_more}
 use lib.IntN.{*ℤ-zero, zero-*ℤ, +ℤ_idl}
-use Rattle.std.proofs.lemmas.List.{take-replicate, append-nil, append_assoc, take_more_set, take_all}
+use Rattle.std.proofs.lemmas.List.{length-reverse, get_or-reverse, length-take-le, get_or-take, ext_get_or, get_or-set_same, get_or-set_other, take-replicate, append-nil, append_assoc, drop_more, drop_all, take_more_set, take_all}
+use Rattle.std.proofs.lemmas.Bool.{ne_eqb, cases_lt}
 use Rattle.semantics.specs.Shapes.{pick}
-use Rattle.semantics.specs.Broadcast.{fit, wide, pinned, narrow}
+use Rattle.semantics.specs.Broadcast.{joins, joined, fit, wide, pinned, narrow}
 use Rattle.semantics.specs.Arrays.{Array}
 use Rattle.semantics.specs.OrderLaws.{dot}
 use Rattle.semantics.proofs.Places.{inside_in, in_inside}
@@ -15,6 +16,98 @@ use Rattle.views.specs.Broadcasting.{Spread, pinned_strides, spread_strides, bro
 use Rattle.views.proofs.Seeing.{sees_holds}
 use Rattle.views.proofs.Walks.{dot_none}
 use Rattle.views.proofs.Rows.{dot_take}
+
+-- a length counted from the last
+pub from_last : (lens : List ℕ) (rank k : ℕ) → rank ≤ length lens → k < rank → get_or (reverse (take rank lens)) k 0 ≡ get_or lens (rank - 1 - k) 0
+from_last lens rank k few l =
+    let long = length-take-le rank lens few in
+    let here : k < length (take rank lens) = omega arith in
+    let low : rank - 1 - k < rank = omega arith in
+    get_or-reverse (take rank lens) k 0 here ∙ (ap (λ n. get_or (take rank lens) (n - 1 - k) 0) long ∙ get_or-take rank lens (rank - 1 - k) 0 low)
+
+pub length_last : (lens : List ℕ) (rank : ℕ) → rank ≤ length lens → length (reverse (take rank lens)) ≡ rank
+length_last lens rank few = length-reverse (take rank lens) ∙ length-take-le rank lens few
+
+pub joins_more : (xs ys : List ℕ) (k : ℕ) → k < length xs → k < length ys →
+    joins (drop k xs) (drop k ys) ≡ ((eqb (get_or xs k 0) (get_or ys k 0) || (eqb (get_or xs k 0) 1 || eqb (get_or ys k 0) 1)) && joins (drop (k + 1) xs) (drop (k + 1) ys))
+unfolding joins
+joins_more xs ys k l m = ap₂ joins (drop_more xs k 0 l) (drop_more ys k 0 m)
+
+pub joins_left : (xs ys : List ℕ) (k : ℕ) → length xs ≤ k → joins (drop k xs) (drop k ys) ≡ true
+unfolding joins
+joins_left xs ys k l = ap (λ v. joins v (drop k ys)) (drop_all k xs l)
+
+joins_nil : (xs : List ℕ) → joins xs [] ≡ true
+unfolding joins
+joins_nil [] = refl
+joins_nil (x ∷ xs) = refl
+
+pub joins_right : (xs ys : List ℕ) (k : ℕ) → length ys ≤ k → joins (drop k xs) (drop k ys) ≡ true
+joins_right xs ys k l = ap (λ v. joins (drop k xs) v) (drop_all k ys l) ∙ joins_nil (drop k xs)
+
+pub get_d_joined_right : (xs ys : List ℕ) (k : ℕ) → length xs ≤ k → get_or (joined xs ys) k 0 ≡ get_or ys k 0
+unfolding joined
+get_d_joined_right [] ys k l = refl
+get_d_joined_right (x ∷ xs) ys zero l = absurd (omega arith)
+get_d_joined_right (x ∷ xs) [] (suc k) l = get_d_nil xs k (omega arith)
+  where
+    get_d_nil : (zs : List ℕ) (n : ℕ) → length zs ≤ n → get_or zs n 0 ≡ 0
+    get_d_nil [] n h = refl
+    get_d_nil (z ∷ zs) zero h = absurd (omega arith)
+    get_d_nil (z ∷ zs) (suc n) h = get_d_nil zs n (omega arith)
+get_d_joined_right (x ∷ xs) (y ∷ ys) (suc k) l = get_d_joined_right xs ys k (omega arith)
+
+pub get_d_joined_left : (xs ys : List ℕ) (k : ℕ) → k < length xs → length ys ≤ k → get_or (joined xs ys) k 0 ≡ get_or xs k 0
+unfolding joined
+get_d_joined_left [] ys k l m = absurd (omega arith)
+get_d_joined_left (x ∷ xs) [] k l m = refl
+get_d_joined_left (x ∷ xs) (y ∷ ys) zero l m = absurd (omega arith)
+get_d_joined_left (x ∷ xs) (y ∷ ys) (suc k) l m = get_d_joined_left xs ys k (omega arith) (omega arith)
+
+pub get_d_joined_both : (xs ys : List ℕ) (k : ℕ) → k < length xs → k < length ys → get_or (joined xs ys) k 0 ≡ pick (eqb (get_or xs k 0) 1) (get_or ys k 0) (get_or xs k 0)
+unfolding joined
+get_d_joined_both [] ys k l m = absurd (omega arith)
+get_d_joined_both (x ∷ xs) [] k l m = absurd (omega arith)
+get_d_joined_both (x ∷ xs) (y ∷ ys) zero l m = refl
+get_d_joined_both (x ∷ xs) (y ∷ ys) (suc k) l m = get_d_joined_both xs ys k (omega arith) (omega arith)
+
+-- lengths put down from the last to the first
+pub put_down : (js lens : List ℕ) (rank k x : ℕ) → rank ≤ length lens → k < rank → ((j : ℕ) → j < k → get_or lens (rank - 1 - j) 0 ≡ get_or js j 0) → x ≡ get_or js k 0 →
+    (j : ℕ) → j < k + 1 → get_or (set lens (rank - 1 - k) x) (rank - 1 - j) 0 ≡ get_or js j 0
+put_down js lens rank k x few l before here =
+    below_more (λ j. get_or (set lens (rank - 1 - k) x) (rank - 1 - j) 0 ≡ get_or js j 0) k
+    (λ j h. let other : rank - 1 - j ≢ rank - 1 - k = omega arith in get_or-set_other lens (rank - 1 - k) (rank - 1 - j) x 0 other ∙ before j h)
+    (let there : rank - 1 - k < length lens = omega arith in get_or-set_same lens (rank - 1 - k) x 0 there ∙ here)
+
+pub all_down : (js lens : List ℕ) (rank : ℕ) → rank ≤ length lens → length js ≡ rank → ((j : ℕ) → j < rank → get_or lens (rank - 1 - j) 0 ≡ get_or js j 0) → take rank lens ≡ reverse js
+all_down js lens rank few long all =
+    let front = length-take-le rank lens few in
+    ext_get_or 0 (take rank lens) (reverse js) (front ∙ (sym long ∙ sym (length-reverse js)))
+    (λ i h.
+    let low : i < rank = omega arith in
+    let here : i < length js = omega arith in
+    let j : rank - 1 - i < rank = omega arith in
+    let back : i ≡ rank - 1 - (rank - 1 - i) = omega arith in
+    get_or-take rank lens i 0 low ∙ (ap (λ n. get_or lens n 0) back ∙ (all (rank - 1 - i) j ∙ (ap (λ n. get_or js (n - 1 - i) 0) (sym long) ∙ sym (get_or-reverse js i 0 here)))))
+
+pub not_one : (xs ys : List ℕ) (k : ℕ) → k < length xs → (get_or xs k 0 ≡ 1 → ⊥) → get_or (joined xs ys) k 0 ≡ get_or xs k 0
+not_one xs ys k l h =
+    ⊎_elim
+    (λ m. get_d_joined_both xs ys k l m ∙ ap (λ t. pick t (get_or ys k 0) (get_or xs k 0)) (ne_eqb (get_or xs k 0) 1 h))
+    (λ m. get_d_joined_left xs ys k l m)
+    (cases_lt k (length ys))
+
+-- one more length from the last, as the code compares them
+pub fit_more : (ls lt : List ℕ) (rs rt k : ℕ) (b : Bool) → rs ≤ length ls → rt ≤ length lt → k < rs → k < rt →
+    b ≡ (eqb (get_or ls (rs - 1 - k) 0) (get_or lt (rt - 1 - k) 0) || (eqb (get_or ls (rs - 1 - k) 0) 1 || eqb (get_or lt (rt - 1 - k) 0) 1)) →
+    joins (drop k (reverse (take rs ls))) (drop k (reverse (take rt lt))) ≡ (b && joins (drop (k + 1) (reverse (take rs ls))) (drop (k + 1) (reverse (take rt lt))))
+fit_more ls lt rs rt k b fs ft l m e =
+    let xs = reverse (take rs ls) in
+    let ys = reverse (take rt lt) in
+    let here : k < length xs = omega (arith, length_last ls rs fs) in
+    let there : k < length ys = omega (arith, length_last lt rt ft) in
+    joins_more xs ys k here there
+    ∙ ap (λ v. v && joins (drop (k + 1) xs) (drop (k + 1) ys)) (ap₂ (λ x y. eqb x y || (eqb x 1 || eqb y 1)) (from_last ls rs k fs l) (from_last lt rt k ft m) ∙ sym e)
 
 -- strides of a wider shape
 pin_times : (d i : ℕ) (z : ℤ) → pick (eqb d 1) (pos 0) z *ℤ pos i ≡ z *ℤ pos (pick (eqb d 1) 0 i)

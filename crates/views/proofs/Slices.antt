@@ -1,9 +1,9 @@
 -- Parts by value, axis by axis.
-use Rattle.std.proofs.Common.{◌≡◌, ℕ, zero, suc, ◌+◌, ◌-◌, ◌*◌, ◌^◌, ◌<◌, ◌≤◌, Bool, true, false, List, [], ◌∷◌, ◌++◌, map, length, get_or, take, set, ℤ, pos, ◌+ℤ◌, ◌*ℤ◌, neg_ℤ, sym, refl, ap, ◌∙◌, subst, ap₂, ⊎_elim, add-one, arith, w64, SFits}
+use Rattle.std.proofs.Common.{◌≡◌, ℕ, zero, suc, ◌+◌, ◌-◌, ◌*◌, ◌^◌, ◌<◌, ◌≤◌, Bool, true, false, ◌&&◌, ltb, leb, List, [], ◌∷◌, ◌++◌, map, length, get_or, take, drop, set, ℤ, pos, ◌+ℤ◌, ◌*ℤ◌, neg_ℤ, sym, refl, ap, ◌∙◌, subst, ap₂, ⊎_elim, add-one, arith, w64, SFits}
 use lib.IntN.{zero-*ℤ, +ℤ_idr, +ℤ_assoc}
-use Rattle.std.proofs.lemmas.List.{take_more, take_more_set, map_push, length-map}
+use Rattle.std.proofs.lemmas.List.{drop_more, drop_all, take_more, take_more_set, map_push, length-map}
 use Rattle.std.proofs.lemmas.Int.{ints}
-use Rattle.std.proofs.lemmas.Bool.{lt-ltb, le-ltb, cases_lt}
+use Rattle.std.proofs.lemmas.Bool.{le-leb, lt-ltb, le-ltb, ne_eqb, cases_lt}
 use Rattle.semantics.specs.Shapes.{pick}
 use Rattle.semantics.specs.Arrays.{Array, part_array}
 use Rattle.semantics.specs.OrderLaws.{dot}
@@ -26,6 +26,37 @@ use Rattle.views.proofs.Rows.{dot_take}
 pub length_fitted : {ps : List Part} {s : List ℕ} → Fitted ps s → length ps ≡ length s
 length_fitted fitted_none = refl
 length_fitted (fitted_more f r) = ap suc (length_fitted r)
+
+-- ---- whether a part fits
+pub fits_back : (p : Part) (d : ℕ) → p.backward ≡ true → (p.step ≡ 0 → ⊥) → (p.many ≡ 0 → ⊥) → p.from < d → part_fits p d ≡ leb (p.step * (p.many - 1)) p.from
+unfolding part_fits
+fits_back p d e s m l = rw (e, le-leb 1 p.step (omega arith), ne_eqb p.many 0 m, lt-ltb p.from d l) refl
+
+pub fits_on : (p : Part) (d : ℕ) → p.backward ≡ false → (p.step ≡ 0 → ⊥) → (p.many ≡ 0 → ⊥) → p.from < d → part_fits p d ≡ ltb (p.from + p.step * (p.many - 1)) d
+unfolding part_fits
+fits_on p d e s m l = rw (e, le-leb 1 p.step (omega arith), ne_eqb p.many 0 m, lt-ltb p.from d l) refl
+
+pub parts_fit_more : (ps : List Slice) (s : List ℕ) (k : ℕ) (e : Slice) → k < length ps → k < length s →
+    parts_fit (map part_of (drop k ps)) (drop k s) ≡ (part_fits (part_of (get_or ps k e)) (get_or s k 0) && parts_fit (map part_of (drop (k + 1) ps)) (drop (k + 1) s))
+unfolding parts_fit
+parts_fit_more ps s k e l m = ap₂ (λ qs t. parts_fit (map part_of qs) t) (drop_more ps k e l) (drop_more s k 0 m)
+
+pub parts_fit_all : (ps : List Slice) (s : List ℕ) (k : ℕ) → length ps ≤ k → length s ≤ k → parts_fit (map part_of (drop k ps)) (drop k s) ≡ true
+unfolding parts_fit
+parts_fit_all ps s k l m = ap₂ (λ qs t. parts_fit (map part_of qs) t) (drop_all k ps l) (drop_all k s m)
+
+-- ---- its shape
+pub part_shape_push : (ps : List Part) (p : Part) → part_shape (ps ++ p ∷ []) ≡ part_shape ps ++ p.many ∷ []
+unfolding part_shape
+part_shape_push [] p = refl
+part_shape_push (q ∷ ps) p = ap (λ xs. q.many ∷ xs) (part_shape_push ps p)
+
+pub part_shape_more : (ps : List Slice) (lens : List ℕ) (k : ℕ) (e : Slice) → k < length ps → k < length lens → take k lens ≡ part_shape (map part_of (take k ps)) →
+    take (k + 1) (set lens k (get_or ps k e).many) ≡ part_shape (map part_of (take (k + 1) ps))
+part_shape_more ps lens k e l m before =
+    take_more_set lens k (get_or ps k e).many m
+    ∙ (ap (λ xs. xs ++ (get_or ps k e).many ∷ []) before
+    ∙ (sym (part_shape_push (map part_of (take k ps)) (part_of (get_or ps k e))) ∙ ap part_shape (sym (map_push part_of (take k ps) (get_or ps k e)) ∙ ap (map part_of) (sym (take_more ps k e l)))))
 
 -- ---- its first place, and its strides
 froms_push : (ps : List Part) (p : Part) → froms (ps ++ p ∷ []) ≡ froms ps ++ p.from ∷ []

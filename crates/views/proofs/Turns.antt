@@ -1,8 +1,8 @@
 -- Axes in another order.
-use Rattle.std.proofs.Common.{◌≡◌, ℕ, ◌+◌, ◌<◌, ◌≤◌, true, List, [], ◌∷◌, ◌++◌, map, length, get_or, take, set, ℤ, pos, ◌+ℤ◌, sym, ap, ◌∙◌, subst, ap₂, arith}
-use Rattle.std.proofs.lemmas.List.{take_more, take_more_set, map_push, length-take-le}
+use Rattle.std.proofs.Common.{◌≡◌, ℕ, ◌+◌, ◌<◌, ◌≤◌, true, false, ◌||◌, eqb, List, [], ◌∷◌, ◌++◌, map, length, get_or, take, drop, set, ℤ, pos, ◌+ℤ◌, sym, refl, ap, ◌∙◌, subst, ap₂, arith}
+use Rattle.std.proofs.lemmas.List.{drop_more, drop_all, take_more, take_more_set, map_push, length-take-le}
 use Rattle.semantics.specs.Arrays.{Array, turn_array}
-use Rattle.semantics.specs.Orders.{is_order, turned, turned_back}
+use Rattle.semantics.specs.Orders.{among, is_order, turned, turned_back}
 use Rattle.semantics.specs.OrderLaws.{dot, turned_strides}
 use Rattle.semantics.proofs.Places.{inside_in, in_inside, length_inside}
 use Rattle.semantics.proofs.Inside.{inside_turned_back}
@@ -13,6 +13,24 @@ use Rattle.views.specs.declared.view.View.{View}
 use Rattle.views.specs.Views.{Good, Holds, Sees, address}
 use Rattle.views.proofs.Seeing.{sees_good, sees_holds}
 use Rattle.views.proofs.Rows.{dot_take}
+
+-- whether an axis is there, and the shape in another order, entry by entry
+pub among_more : (x : ℕ) (os : List ℕ) (k : ℕ) → k < length os → among x (drop k os) ≡ (eqb x (get_or os k 0) || among x (drop (k + 1) os))
+unfolding among
+among_more x os k l = ap (among x) (drop_more os k 0 l)
+
+pub among_none : (x : ℕ) (os : List ℕ) (k : ℕ) → length os ≤ k → among x (drop k os) ≡ false
+unfolding among
+among_none x os k l = ap (among x) (drop_all k os l)
+
+turned_push : (os s : List ℕ) (o : ℕ) → turned (os ++ o ∷ []) s ≡ turned os s ++ get_or s o 0 ∷ []
+unfolding turned
+turned_push [] s o = refl
+turned_push (p ∷ os) s o = ap (λ xs. get_or s p 0 ∷ xs) (turned_push os s o)
+
+pub turned_more : (os s lens : List ℕ) (k x : ℕ) → k < length os → k < length lens → take k lens ≡ turned (take k os) s → x ≡ get_or s (get_or os k 0) 0 → take (k + 1) (set lens k x) ≡ turned (take (k + 1) os) s
+turned_more os s lens k x l m before here =
+    take_more_set lens k x m ∙ (ap₂ (λ xs y. xs ++ y ∷ []) before here ∙ (sym (turned_push (take k os) s (get_or os k 0)) ∙ ap (λ qs. turned qs s) (sym (take_more os k 0 l))))
 
 pub turned_strides_more : (os : List ℕ) (zs ys : List ℤ) (k : ℕ) (y : ℤ) → k < length os → k < length ys → take k ys ≡ turned_strides (take k os) zs → y ≡ get_or zs (get_or os k 0) (pos 0) →
     take (k + 1) (set ys k y) ≡ turned_strides (take (k + 1) os) zs
