@@ -28,6 +28,24 @@ pub begins_is : (u w : Word) (r : Bool) → r ≡ pointwise eqb u (take (length 
 begins_is u w r h = same_is u (take (length u) w) r h ∙ sym (begins_by_same u w)
 
 module _ {A : Type 0} (spelled : A → Word) (xs : List A) (w : Word) where
+  pub find_here : (k : ℕ) (d : A) → k < length xs → same_word w (spelled (get_or xs k d)) ≡ true → find spelled (drop k xs) w ≡ Some (get_or xs k d)
+  unfolding find
+  find_here k d low same =
+      let here : find spelled (drop k xs) w ≡ pick (same_word w (spelled (get_or xs k d))) (Some (get_or xs k d)) (find spelled (drop (k + 1) xs) w) =
+      at_drop_more (λ ys. find spelled ys w) xs k d low in
+      here ∙ ap (λ t. pick t (Some (get_or xs k d)) (find spelled (drop (k + 1) xs) w)) same
+
+  pub find_on : (k : ℕ) (d : A) → k < length xs → same_word w (spelled (get_or xs k d)) ≡ false → find spelled (drop k xs) w ≡ find spelled (drop (k + 1) xs) w
+  unfolding find
+  find_on k d low same =
+      let here : find spelled (drop k xs) w ≡ pick (same_word w (spelled (get_or xs k d))) (Some (get_or xs k d)) (find spelled (drop (k + 1) xs) w) =
+      at_drop_more (λ ys. find spelled ys w) xs k d low in
+      here ∙ ap (λ t. pick t (Some (get_or xs k d)) (find spelled (drop (k + 1) xs) w)) same
+
+  pub find_none : (k : ℕ) → length xs ≤ k → find spelled (drop k xs) w ≡ None
+  unfolding find
+  find_none k past = at_drop_all (λ ys. find spelled ys w) xs k past
+
   pub some_here : (k : ℕ) (d : A) → k < length xs → same_word w (spelled (get_or xs k d)) ≡ true → is_some spelled (drop k xs) w ≡ true
   unfolding is_some
   some_here k d low same =
