@@ -1,5 +1,5 @@
 -- A machine settles and moves as the state that it stands for.
-use Rattle.std.proofs.Common.{◌≡◌, ℕ, ◌+◌, ◌<◌, ◌≤◌, Bool, true, false, List, [], ◌∷◌, ◌++◌, length, get_or, take, drop, None, Option, sym, refl, ap, ◌∙◌, subst, arith}
+use Rattle.std.proofs.Common.{◌≡◌, ℕ, ◌+◌, ◌-◌, ◌<◌, ◌≤◌, Bool, true, false, List, [], ◌∷◌, ◌++◌, length, get_or, take, drop, None, Option, sym, refl, ap, ◌∙◌, subst, arith}
 use Rattle.std.specs.Option.{option_to_list}
 use Rattle.std.proofs.lemmas.List.{drop_all, drop_more, length-take, length-take-le, length_push, map_push}
 use Rattle.semantics.specs.Shapes.{pick}
@@ -19,7 +19,7 @@ use Rattle.reader.specs.declared.turn.Turn.{Turn}
 use Rattle.reader.specs.declared.turn.Mark.{Mark}
 use Rattle.reader.specs.Pushed.{symbols_of}
 use Rattle.reader.specs.Names.{part, spelling, spellings}
-use Rattle.reader.specs.Turning.{ended_as, ended_of, move_as, flag_of, word_from, Fit}
+use Rattle.reader.specs.Turning.{ended_as, ended_of, move_as, move_of, flag_of, word_from, Fit}
 use Rattle.reader.specs.Machines.{state_of, Good, Fits, over, Replaced, Settled, Turned, Advanced, ReadOn}
 use Rattle.reader.proofs.Turnings.{part_none}
 use Rattle.reader.proofs.Spelled.{length_spellings}
@@ -145,6 +145,9 @@ room_for ns s w v x few e new =
 pub ended_at : (ns ns' : List Word) (w w' : Word) (s : Symbol) (v : ℕ) (x : Option Ending) → ns ≡ ns' → w ≡ w' → ended_of ns w x ≡ ends ns s w v → ended_of ns' w' x ≡ ends ns' s w' v
 ended_at ns ns' w w' s v x p q e = subst (λ u. ended_of ns' u x ≡ ends ns' s u v) q (subst (λ m. ended_of m w x ≡ ends m s w v) p e)
 
+pub used_names : (t : List ℕ) (m : Machine) → spellings t (take (m.count - 0) m.names) ≡ names_of t m
+used_names t m = let same : m.count - 0 ≡ m.count = omega arith in ap (λ n. spellings t (take n m.names)) same
+
 pub few_used : (t : List ℕ) (i spare : ℕ) (m : Machine) → Good i spare m → length (names_of t m) ≡ m.count
 few_used t i spare m good = length_spellings t (take m.count m.names) ∙ length-take-le m.count m.names (omega (arith, good.few, good.spans))
 
@@ -199,6 +202,9 @@ pub settled_new : (t : List ℕ) (i b : ℕ) (m new : Machine) (x : Ending) → 
 settled_new t i b m new x good there e k names few long down word value =
     settled_by t i b m new (pick x.named (names_of t m ++ part t m.word i ∷ []) (names_of t m)) x.step (symbols_of x.pushes) good there e k
     (names_more t m new i x.named (record { from = m.word; to = i }) refl refl names) few long down (few_symbols x.pushes) word value
+
+pub moves_at : (ns ns' : List Word) (t : List ℕ) (e : ℕ) (s : Symbol) (w : Word) (v b : ℕ) (x : Option Turn) → ns ≡ ns' → move_of t e x ≡ moves ns s w v b → move_of t e x ≡ moves ns' s w v b
+moves_at ns ns' t e s w v b x p h = h ∙ ap (λ m. moves m s w v b) p
 
 pub turned_by : (t : List ℕ) (i : ℕ) (m new : Machine) (x : Mark) (step : Option Step) (p : List Symbol) (u : Word) → Good i 8 m → m.top < 2112
     → move (flag_of x) (option_to_list step) p u new.value ≡ moves (names_of t m) (get_or m.stack m.top Symbol.Lines) (part t m.word i) m.value (get_or t i 0)

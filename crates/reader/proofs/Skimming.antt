@@ -1,6 +1,6 @@
 -- Bytes that say no step, read in place.
-use Rattle.std.proofs.Common.{◌≡◌, ℕ, ◌+◌, ◌-◌, ◌<◌, ◌≤◌, true, false, ◌&&◌, eqb, ltb, leb, List, [], ◌∷◌, ◌++◌, length, get_or, drop, None, sym, refl, ap, ◌∙◌, subst, arith}
-use Rattle.std.proofs.lemmas.List.{length-take, length_push}
+use Rattle.std.proofs.Common.{◌≡◌, ℕ, ◌+◌, ◌-◌, ◌<◌, ◌≤◌, true, false, ◌&&◌, eqb, ltb, leb, List, [], ◌∷◌, ◌++◌, length, get_or, drop, set, None, sym, refl, ap, ◌∙◌, subst, arith}
+use Rattle.std.proofs.lemmas.List.{drop-set, length-set, length-take, length_push}
 use Rattle.std.proofs.lemmas.Bool.{eq-eqb, ne_eqb, leb-true, lt-ltb, and_parts, and_from, or_right}
 use Rattle.semantics.specs.Shapes.{pick}
 use Rattle.grammar.specs.declared.symbol.Symbol.{Symbol}
@@ -21,6 +21,14 @@ use Rattle.reader.proofs.Noting.{hinted_same, never}
 -- the topmost symbol as it was
 pub kept : (m : Machine) (s : Symbol) → TopIs m s → Replaced m.stack m.top m.stack m.top (s ∷ [])
 kept m s top = record { is = top_is m s top.there (sym top.is); down = omega arith; long = refl }
+
+-- one symbol less
+pub popped : (xs : List Symbol) (top : ℕ) → Replaced xs top xs (top + 1) []
+popped xs top = record { is = refl; down = omega arith; long = refl }
+
+-- another symbol on top
+pub topped : (xs : List Symbol) (top : ℕ) (s : Symbol) → top < length xs → Replaced xs top (set xs top s) top (s ∷ [])
+topped xs top s there = record { is = drop-set xs top s there; down = omega arith; long = length-set xs top s }
 
 -- ONE BYTE MORE
 

@@ -1,6 +1,7 @@
 -- Names, looked for one after the other.
-use Rattle.std.proofs.Common.{◌≡◌, ℕ, suc, ◌+◌, ◌<◌, ◌≤◌, Bool, true, false, ◌&&◌, ◌||◌, cond, ltb, List, [], ◌∷◌, ◌++◌, length, get_or, position, Some, None, Option, sym, refl, ap, ◌∙◌, subst, add-zero, arith}
-use Rattle.std.proofs.lemmas.List.{length-map, get_or-map}
+use Rattle.std.proofs.Common.{◌≡◌, ℕ, suc, ◌+◌, ◌-◌, ◌<◌, ◌≤◌, Bool, true, false, ◌&&◌, ◌||◌, cond, ltb, ◌⊎◌, List, [], ◌∷◌, ◌++◌, length, get_or, position, take, drop, Some, None, Option, sym, refl, ap, ◌∙◌, subst, inl, inr, add-zero, arith}
+use lib.Seq.{take-nil}
+use Rattle.std.proofs.lemmas.List.{at_drop_more, at_drop_all, drop_all, take_all, length-map, length-drop, get_or-map}
 use Rattle.std.specs.List.{list_any, position_from}
 use Rattle.std.proofs.lemmas.Iterator.Adapters.{position_from-zero}
 use Rattle.std.proofs.lemmas.Bool.{le-ltb, lt-ltb, or_right, false≢true}
@@ -8,7 +9,23 @@ use Rattle.semantics.specs.Shapes.{pick}
 use Rattle.grammar.specs.Words.{Word, same_word, begins_word, is_some, begins_some, itself, is_name, shaped, head_word, heads}
 use Rattle.grammar.specs.Moves.{place, with_name, can_name, viable_name, viable}
 use Rattle.reader.specs.declared.names.Span.{Span}
-use Rattle.reader.specs.Names.{spelling, spellings, Sought, absent, present, Named, unnamed, named}
+use Rattle.reader.specs.Names.{part, spelling, spellings, Sought, absent, present, Named, unnamed, named}
+
+-- bounds past the text's end give the same part
+pub part_within : (t : List ℕ) (a b c d : ℕ) → ((b ≡ d) × (d < length t)) ⊎ ((b ≡ length t) × (length t ≤ d)) → ((a ≡ c) × (c < b)) ⊎ ((a ≡ b) × (b ≤ c)) → part t a b ≡ part t c d
+part_within t a b c d (inl (p, q)) (inl (r, s)) = ap (λ n. take (n - a) (drop a t)) p ∙ ap (λ n. take (d - n) (drop n t)) r
+part_within t a b c d (inl (p, q)) (inr (r, s)) =
+    let left : b - a ≡ 0 = omega arith in
+    let right : d - c ≡ 0 = omega arith in
+    ap (λ n. take n (drop a t)) left ∙ sym (ap (λ n. take n (drop c t)) right)
+part_within t a b c d (inr (p, q)) (inl (r, s)) =
+    let left : take (b - a) (drop a t) ≡ drop a t = take_all (b - a) (drop a t) (simp length-drop (omega arith)) in
+    let right : take (d - c) (drop c t) ≡ drop c t = take_all (d - c) (drop c t) (simp length-drop (omega arith)) in
+    left ∙ (ap (λ n. drop n t) r ∙ sym right)
+part_within t a b c d (inr (p, q)) (inr (r, s)) =
+    let left : b - a ≡ 0 = omega arith in
+    let right : drop c t ≡ [] = drop_all c t (omega arith) in
+    ap (λ n. take n (drop a t)) left ∙ sym (ap (take (d - c)) right ∙ take-nil (d - c))
 
 pub length_spellings : (t : List ℕ) (ss : List Span) → length (spellings t ss) ≡ length ss
 unfolding spellings
@@ -56,6 +73,22 @@ or_false true = refl
 or_false false = refl
 
 module _ (ns : List Word) (w : Word) where
+  pub place_here : (k : ℕ) → k < length ns → same_word w (get_or ns k []) ≡ true → place (drop k ns) w ≡ 0
+  unfolding place
+  place_here k low same =
+      let here : place (drop k ns) w ≡ pick (same_word w (get_or ns k [])) 0 (suc (place (drop (k + 1) ns) w)) = at_drop_more (λ ys. place ys w) ns k [] low in
+      here ∙ ap (λ t. pick t 0 (suc (place (drop (k + 1) ns) w))) same
+
+  pub place_on : (k : ℕ) → k < length ns → same_word w (get_or ns k []) ≡ false → place (drop k ns) w ≡ suc (place (drop (k + 1) ns) w)
+  unfolding place
+  place_on k low same =
+      let here : place (drop k ns) w ≡ pick (same_word w (get_or ns k [])) 0 (suc (place (drop (k + 1) ns) w)) = at_drop_more (λ ys. place ys w) ns k [] low in
+      here ∙ ap (λ t. pick t 0 (suc (place (drop (k + 1) ns) w))) same
+
+  pub place_none : (k : ℕ) → length ns ≤ k → place (drop k ns) w ≡ 0
+  unfolding place
+  place_none k past = at_drop_all (λ ys. place ys w) ns k past
+
   pub sought_below : (k : ℕ) → Sought ns w (Some k) → k < length ns
   sought_below k (present is at low) = low
 
