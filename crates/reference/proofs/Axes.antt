@@ -1,5 +1,5 @@
 -- One axis out and one index in, entry by entry.
-use Rattle.std.proofs.Common.{◌≡◌, ℕ, zero, suc, ◌+◌, ◌-◌, ◌<◌, ◌≤◌, List, [], ◌∷◌, length, get_or, take, set, refl, ap, ◌∙◌, subst, add-one, arith}
+use Rattle.std.proofs.Common.{◌≡◌, ℕ, zero, suc, ◌+◌, ◌-◌, ◌<◌, ◌≤◌, List, [], ◌∷◌, length, get_or, take, set, sym, refl, ap, ◌∙◌, subst, add-one, arith}
 use Rattle.semantics.specs.Shapes.{without, put_in}
 use Rattle.std.proofs.lemmas.List.{set-get_or}
 use Rattle.semantics.specs.Arrays.{folded}
@@ -11,6 +11,31 @@ take_set_any zero i a xs = refl
 take_set_any (suc n) i a [] = refl
 take_set_any (suc n) zero a (x ∷ xs) = refl
 take_set_any (suc n) (suc i) a (x ∷ xs) = ap (λ ys. x ∷ ys) (take_set_any n i a xs)
+
+pub get_d_put_in_at : (x j : ℕ) (is : List ℕ) → x ≤ length is → get_or (put_in x j is) x 0 ≡ j
+unfolding put_in
+get_d_put_in_at zero j is h = refl
+get_d_put_in_at (suc x) j [] h = absurd (omega arith)
+get_d_put_in_at (suc x) j (i ∷ is) h = get_d_put_in_at x j is (omega arith)
+
+pub get_d_put_in_before : (x j k : ℕ) (is : List ℕ) → x ≤ length is → k < x → get_or (put_in x j is) k 0 ≡ get_or is k 0
+unfolding put_in
+get_d_put_in_before zero j k is h l = absurd (omega arith)
+get_d_put_in_before (suc x) j k [] h l = absurd (omega arith)
+get_d_put_in_before (suc x) j zero (i ∷ is) h l = refl
+get_d_put_in_before (suc x) j (suc k) (i ∷ is) h l = get_d_put_in_before x j k is (omega arith) (omega arith)
+
+put_in_after : (x j k : ℕ) (is : List ℕ) → x ≤ length is → x ≤ k → get_or (put_in x j is) (suc k) 0 ≡ get_or is k 0
+unfolding put_in
+put_in_after zero j k is h l = refl
+put_in_after (suc x) j k [] h l = absurd (omega arith)
+put_in_after (suc x) j zero (i ∷ is) h l = absurd (omega arith)
+put_in_after (suc x) j (suc k) (i ∷ is) h l = put_in_after x j k is (omega arith) (omega arith)
+
+pub get_d_put_in_after : (x j k : ℕ) (is : List ℕ) → x ≤ length is → x < k → get_or (put_in x j is) k 0 ≡ get_or is (k - 1) 0
+get_d_put_in_after x j k is h l =
+    let one : k ≡ suc (k - 1) = omega arith in
+    ap (λ n. get_or (put_in x j is) n 0) one ∙ put_in_after x j (k - 1) is h (omega arith)
 
 pub length_put_in : (x j : ℕ) (is : List ℕ) → x ≤ length is → length (put_in x j is) ≡ length is + 1
 unfolding put_in
@@ -29,6 +54,23 @@ unfolding without
 length_without x [] h = absurd (omega arith)
 length_without zero (d ∷ s) h = omega arith
 length_without (suc x) (d ∷ s) h = omega (arith, length_without x s (omega arith))
+
+pub get_d_without_before : (x k : ℕ) (s : List ℕ) → k < x → get_or (without x s) k 0 ≡ get_or s k 0
+unfolding without
+get_d_without_before x k [] h = refl
+get_d_without_before zero k (d ∷ s) h = absurd (omega arith)
+get_d_without_before (suc x) zero (d ∷ s) h = refl
+get_d_without_before (suc x) (suc k) (d ∷ s) h = get_d_without_before x k s (omega arith)
+
+without_after : (x k : ℕ) (s : List ℕ) → x ≤ k → get_or (without x s) k 0 ≡ get_or s (suc k) 0
+unfolding without
+without_after x k [] h = refl
+without_after zero k (d ∷ s) h = refl
+without_after (suc x) zero (d ∷ s) h = absurd (omega arith)
+without_after (suc x) (suc k) (d ∷ s) h = without_after x k s (omega arith)
+
+pub get_d_without_after : (x k : ℕ) (s : List ℕ) → x ≤ k → get_or (without x s) k 0 ≡ get_or s (k + 1) 0
+get_d_without_after x k s h = without_after x k s h ∙ ap (λ n. get_or s n 0) (sym (add-one k))
 
 -- ---- folds
 folded_suc : (f : ℕ → ℕ → ℕ) (e : ℕ) (g : ℕ → ℕ) (n : ℕ) → 0 < n → folded f e g (suc n) ≡ f (folded f e g n) (g n)

@@ -1,5 +1,5 @@
 -- Where a program begins, and how it ends.
-use Rattle.std.proofs.Common.{◌≡◌, ℕ, zero, suc, ◌^◌, ◌≤◌, List, [], ◌∷◌, length, map, get_or, None, Ok, Err, vec_items, Vec, sym, refl, ap, ◌∙◌, subst, arith, Option, Result, MatchResult, IsOkAnd}
+use Rattle.std.proofs.Common.{◌≡◌, ℕ, zero, suc, ◌+◌, ◌^◌, ◌≤◌, List, [], ◌∷◌, ◌++◌, length, map, get_or, None, Ok, Err, vec_items, Vec, sym, refl, ap, ◌∙◌, subst, arith, Option, Result, MatchResult, IsOkAnd, add-one}
 use Rattle.std.specs.declared.alloc.Global.{Global}
 use Rattle.std.specs.List.{FoldsTo}
 use Rattle.std.proofs.lemmas.List.{length-map}
@@ -26,6 +26,14 @@ pub nothing_made : {F : Type 0} (made : F → Option owned.Array → F → Type 
 unfolding nothing
 nothing_made made empty [] p q k = refl
 nothing_made made empty (y ∷ ys) p q k = ap (λ o. cell_of o ∷ map cell_of ys) (empty p y k.0 k.1) ∙ ap (λ l. none ∷ l) (nothing_made made empty ys k.0 q k.2)
+
+nothing_suc : (k : ℕ) → nothing {Num = ℕ} k ++ none ∷ [] ≡ nothing (suc k)
+unfolding nothing
+nothing_suc zero = refl
+nothing_suc (suc k) = ap (λ l. none ∷ l) (nothing_suc k)
+
+pub nothing_push : (k : ℕ) → nothing {Num = ℕ} k ++ none ∷ [] ≡ nothing (k + 1)
+nothing_push k = nothing_suc k ∙ ap nothing (sym (add-one k))
 
 length_nothing : (k : ℕ) → length (nothing {Num = ℕ} k) ≡ k
 unfolding nothing

@@ -1,8 +1,8 @@
 -- Names as cells of the meaning.
-use Rattle.std.proofs.Common.{◌≡◌, ℕ, ◌+◌, ◌<◌, List, [], ◌∷◌, ◌++◌, map, length, get_or, take, sym, ap, ◌∙◌, arith, Option, Some, None, MatchOption}
+use Rattle.std.proofs.Common.{◌≡◌, ℕ, ◌+◌, ◌<◌, ◌≤◌, List, [], ◌∷◌, ◌++◌, map, length, get_or, take, sym, ap, ◌∙◌, arith, Option, Some, None, MatchOption}
 use Rattle.std.specs.Borrow.{Bor}
 use Rattle.std.specs.Option.{option_copied}
-use Rattle.std.proofs.lemmas.List.{get_or-map, length-map, take_more}
+use Rattle.std.proofs.lemmas.List.{get_or-map, length-map, take_more, get_or_past}
 use Rattle.semantics.specs.Values as meaning
 use Rattle.semantics.specs.Programs.{cell_size, in_names}
 use Rattle.reference.specs.declared.array.Array as owned
@@ -17,6 +17,9 @@ in_names_push (d ∷ cs) c = omega (arith, in_names_push cs c)
 -- a name that was read
 pub cell_there : (xs : List (Option owned.Array)) (k : ℕ) (x : Option owned.Array) → k < length xs → x ≡ get_or xs k x → get_or (map cell_of xs) k meaning.none ≡ cell_of x
 cell_there xs k x l e = get_or-map cell_of xs k x meaning.none l ∙ ap cell_of (sym e)
+
+pub cell_past : (xs : List (Option owned.Array)) (k : ℕ) → length xs ≤ k → get_or (map cell_of xs) k meaning.none ≡ meaning.none
+cell_past xs k l = get_or_past (map cell_of xs) k meaning.none (omega (arith, length-map xs cell_of))
 
 pub in_names_more : (xs : List (Option owned.Array)) (k : ℕ) (x : Option owned.Array) → k < length xs → x ≡ get_or xs k x → in_names (take (k + 1) (map cell_of xs)) ≡ in_names (take k (map cell_of xs)) + cell_size (cell_of x)
 in_names_more xs k x l e =

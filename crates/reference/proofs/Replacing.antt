@@ -14,11 +14,11 @@ use Rattle.reference.specs.Broadcasts.{Reaches}
 use Rattle.reference.proofs.Broadcasting.{reaches}
 
 module _ (ps : List Part) (b : Array ℕ) where
-  not_put : (s : List ℕ) → s ≡ part_shape ps → fit s b.shape ≡ false → can_put ps b ≡ false
+  pub not_put : (s : List ℕ) → s ≡ part_shape ps → fit s b.shape ≡ false → can_put ps b ≡ false
   unfolding can_put
   not_put s e f = and_left _ _ (ap (λ t. fit t b.shape) (sym e) ∙ f)
 
-  put_by : (s w : List ℕ) → s ≡ part_shape ps → (fit s b.shape ≡ true) × (w ≡ wide s b.shape) → same w s ≡ can_put ps b
+  pub put_by : (s w : List ℕ) → s ≡ part_shape ps → (fit s b.shape ≡ true) × (w ≡ wide s b.shape) → same w s ≡ can_put ps b
   unfolding can_put
   put_by s w e v =
       ap (λ t. same t s) v.1

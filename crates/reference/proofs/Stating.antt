@@ -33,6 +33,7 @@ use Rattle.reference.specs.ArrayOf.{array_of}
 use Rattle.reference.specs.CellsOf.{cell_of, cells_of, sizes}
 use Rattle.reference.specs.Right.{Right, right_fault, right_memory}
 use Rattle.reference.specs.Running.{Stood, Went, went, faulted, wanting, SmallNames, Replaces, replaces, replaces_not, replaces_wanting, ReplacesIn, ReplacesAt}
+use Rattle.reference.proofs.Cells.{cell_there}
 use Rattle.reference.proofs.Rights.{right_ok, twins_trans, alike_back}
 
 -- ---- an expression of a statement
@@ -213,6 +214,10 @@ pub replaces_exit : (ws bs : List ℕ) (names : Vec (Option owned.Array) Global)
 replaces_exit ws bs names i p ps r k old x b h =
     let q = err_from_is_err_and r b in
     subst (λ z. ReplacesIn ws bs names i p ps z k old) (sym q.1) (subst (λ y. ReplacesIn ws bs names i p ps (Err y) k old) (sym q.2) h)
+
+-- the cell that was read, in a state
+pub cell_like : (t : meaning.State ℕ) (names : Vec (Option owned.Array) Global) (k : ℕ) (x : Option owned.Array) → LikeNames t.names (cells_of names) → k < length (vec_items names) → x ≡ get_or (vec_items names) k x → LikeCells (get_or t.names k none) (cell_of x)
+cell_like t names k x l h e = subst (λ c. LikeCells (get_or t.names k none) c) (cell_there (vec_items names) k x h e) (l k)
 
 -- what a name has, in a state
 pub small_found : (names : Vec (Option owned.Array) Global) (k : ℕ) (a : owned.Array) → SmallNames names → get_or (cells_of names) k none ≡ some (array_of a) → size (shape_of a.shape) ≤ 2 ^ 26
