@@ -1,11 +1,12 @@
 -- Bytes that say no step, read in place.
-use Rattle.std.proofs.Common.{◌≡◌, ℕ, ◌+◌, ◌-◌, ◌<◌, ◌≤◌, true, false, ◌&&◌, eqb, ltb, leb, List, [], ◌∷◌, ◌++◌, length, get_or, drop, set, None, sym, refl, ap, ◌∙◌, subst, arith}
+use Rattle.std.proofs.Common.{◌≡◌, ℕ, ◌+◌, ◌-◌, ◌<◌, ◌≤◌, true, false, ◌&&◌, eqb, ltb, leb, List, [], ◌∷◌, ◌++◌, length, get_or, drop, set, None, sym, refl, ap, ◌∙◌, subst, arith, codes}
 use Rattle.std.proofs.lemmas.List.{drop-set, length-set, length-take, length_push}
 use Rattle.std.proofs.lemmas.Bool.{eq-eqb, ne_eqb, leb-true, lt-ltb, and_parts, and_from, or_right}
 use Rattle.semantics.specs.Shapes.{pick}
 use Rattle.grammar.specs.declared.symbol.Symbol.{Symbol}
 use Rattle.grammar.specs.declared.symbol.Target.{Target}
-use Rattle.grammar.specs.Letters.{inside, begins}
+use Rattle.grammar.specs.declared.symbol.Number.{Number}
+use Rattle.grammar.specs.Letters.{inside, begins, opens}
 use Rattle.grammar.specs.Words.{Word, begins_some, head_word, heads, is_letter, in_word, all_in_word, shaped}
 use Rattle.grammar.specs.Moves.{belongs, viable, viable_name, move, when, push, spelled, line_move, operands_move, moves}
 use Rattle.reader.specs.declared.machine.Machine.{Machine}
@@ -74,6 +75,12 @@ between_let : {s : Symbol} (ns : List Word) (w : Word) (v b : ℕ) → BetweenLi
 unfolding moves line_move spelled
 between_let ns w v b outside e = sym (ap (λ x. moves ns Symbol.Lines w v x) e)
 between_let ns w v b within e = sym (ap (λ x. moves ns Symbol.Body w v x) e)
+
+between_again : {s : Symbol} (ns : List Word) (w : Word) (v b : ℕ) → BetweenLines s → b ≡ 97
+    → move opens [] (spelled (codes "gain ") (Symbol.Number Number.Again ∷ Symbol.Byte 10 ∷ s ∷ [])) [] 0 ≡ moves ns s w v b
+unfolding moves line_move
+between_again ns w v b outside e = sym (ap (λ x. moves ns Symbol.Lines w v x) e)
+between_again ns w v b within e = sym (ap (λ x. moves ns Symbol.Body w v x) e)
 
 module _ (t : List ℕ) (i : ℕ) (m : Machine) (on : Reading t i m) where
   good : Good i 8 m
@@ -166,3 +173,9 @@ module _ (t : List ℕ) (i : ℕ) (m : Machine) (on : Reading t i m) where
   let_read s new top between same placed =
       placed_on new Mark.Begins s (Symbol.Byte 101 ∷ Symbol.Byte 116 ∷ Symbol.Byte 32 ∷ Symbol.Target Target.Let ∷ Symbol.Byte 10 ∷ s ∷ []) top (between_belongs (get_or t i 0) between)
       (between_let (names_of t m) (part t m.word i) m.value (get_or t i 0) between same) placed
+
+  pub again_read : (s : Symbol) (new : Machine) → TopIs m s → BetweenLines s → get_or t i 0 ≡ 97
+      → Placed m new (spelled (codes "gain ") (Symbol.Number Number.Again ∷ Symbol.Byte 10 ∷ s ∷ [])) (i + 1) → ReadOn t i m new Mark.Opens
+  again_read s new top between same placed =
+      placed_on new Mark.Opens s (spelled (codes "gain ") (Symbol.Number Number.Again ∷ Symbol.Byte 10 ∷ s ∷ [])) top (between_belongs (get_or t i 0) between)
+      (between_again (names_of t m) (part t m.word i) m.value (get_or t i 0) between same) placed

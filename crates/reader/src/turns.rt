@@ -79,7 +79,7 @@ fn show_line(here: Symbol) -> Pushes
 }
 
 // Behind the first byte of `again`.
-fn again_line(here: Symbol) -> Pushes
+pub fn again_line(here: Symbol) -> Pushes
     ensures { symbols_of result ≡ spelled (codes "gain ") (Symbol.Number Number.Again ∷ Symbol.Byte 10 ∷ here ∷ []) }
 {
     pushes![
@@ -95,15 +95,17 @@ fn again_line(here: Symbol) -> Pushes
 }
 
 // The first byte of a statement.
+// Stays: each arm returns its turn, which is so written in place; as the value of the match it is put together from its
+// parts once more, and a text of many short lines takes up to an eighth more instructions.
 fn line_turn(here: Symbol, b: u8) -> Option<Turn>
     ensures { (t : List ℕ) (e : ℕ) (other : Move) → move_or t e other result ≡ line_move here other b }
 {
     match b {
-        b'l' => begin_line(Mark::Begins, None, target_line(b'e', Target::Let, here)),
-        b'p' => begin_line(Mark::Begins, None, target_line(b'u', Target::Put, here)),
-        b's' => begin_line(Mark::Begins, Some(Step::Show), show_line(here)),
-        b'a' => begin_line(Mark::Opens, None, again_line(here)),
-        _ => None,
+        b'l' => return begin_line(Mark::Begins, None, target_line(b'e', Target::Let, here)),
+        b'p' => return begin_line(Mark::Begins, None, target_line(b'u', Target::Put, here)),
+        b's' => return begin_line(Mark::Begins, Some(Step::Show), show_line(here)),
+        b'a' => return begin_line(Mark::Opens, None, again_line(here)),
+        _ => return None,
     }
 }
 
@@ -111,19 +113,16 @@ fn line_turn(here: Symbol, b: u8) -> Option<Turn>
 fn body_turn(b: u8) -> Option<Turn>
     ensures { (t : List ℕ) (e : ℕ) (ns : List Word) (w : Word) (v : ℕ) → move_of t e result ≡ moves ns Symbol.Body w v b }
 {
-    if let Some(turn) = line_turn(Symbol::Body, b) {
-        return Some(turn);
+    match b {
+        b'e' => Some(Turn {
+            mark: Mark::Closes,
+            step: Some(Step::End),
+            pushes: pushes![Symbol::Byte(b'n'), Symbol::Byte(b'd')],
+            word: None,
+            value: 0,
+        }),
+        _ => line_turn(Symbol::Body, b),
     }
-    if b != b'e' {
-        return None;
-    }
-    Some(Turn {
-        mark: Mark::Closes,
-        step: Some(Step::End),
-        pushes: pushes![Symbol::Byte(b'n'), Symbol::Byte(b'd')],
-        word: None,
-        value: 0,
-    })
 }
 
 // The first digit of a number.

@@ -9,7 +9,7 @@ use crate::endings::{end_symbol, goes_on};
 use crate::machine::Machine;
 use crate::names::{Span, part_of};
 use crate::stepping::known::{end_known, sum_of};
-use crate::stepping::skimming::{begin_mark, take_plain};
+use crate::stepping::skimming::{begin_again, begin_mark, take_plain};
 use crate::stepping::{Advance, Said};
 use crate::turn::Mark;
 use crate::turns::turn_symbol;
@@ -141,6 +141,13 @@ pub fn advance_quick(machine: &mut Machine, text: &[u8], i: usize) -> Option<Adv
         });
     }
     let Some(before) = end_known(machine, text, i, text[i]) else {
+        if begin_again(machine, text, i) {
+            return Some(Advance {
+                before: None,
+                step: None,
+                mark: Mark::Opens,
+            });
+        }
         return advance(machine, text, i);
     };
     if take_plain(machine, text, i) {

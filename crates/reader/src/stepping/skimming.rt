@@ -8,7 +8,7 @@ ghost use Rattle.reader.specs.Machines.{Spells, BetweenLines, Reading, ReadsOn};
 use crate::machine::Machine;
 use crate::names::MOST_NAMES;
 use crate::stepping::figures::take_figure;
-use crate::turns::target_line;
+use crate::turns::{again_line, target_line};
 use grammar::letters::{in_word, is_letter};
 use grammar::symbol::{Symbol, Target};
 
@@ -149,6 +149,28 @@ fn begin_let(machine: &mut Machine, text: &[u8], i: usize) -> bool
         return false;
     }
     let line = target_line(b'e', Target::Let, symbol);
+    machine.replace_top(line.as_slice(), i + 1);
+    true
+}
+
+// The first byte of `again`.
+// Not inlined, and tried where no word ends in a common way: inlined and tried before, it makes a text of `let` lines take
+// 2 % more instructions.
+#[inline(never)]
+pub fn begin_again(machine: &mut Machine, text: &[u8], i: usize) -> bool
+    requires { Reading text.now i machine.old }
+    ensures { ReadsOn text.now i machine.old machine.new Mark.Opens result }
+{
+    if text[i] != b'a' {
+        return false;
+    }
+    let Some(symbol) = machine.top_symbol() else {
+        return false;
+    };
+    if !is_between(symbol) {
+        return false;
+    }
+    let line = again_line(symbol);
     machine.replace_top(line.as_slice(), i + 1);
     true
 }

@@ -2,7 +2,7 @@ use Rattle.std.proofs.Common.{◌++◌, get_or, None, sym, ap, ◌∙◌, subst}
 use Rattle.std.specs.Option.{option_to_list}
 use Rattle.grammar.specs.Automaton.{top_move, moved, next}
 use Rattle.reader.specs.declared.turn.Mark.{Mark}
-use Rattle.reader.specs.Machines.{state_of, Good, Hinted, Settled, Turned, Advances}
+use Rattle.reader.specs.Machines.{state_of, Good, Hinted, Settled, Turned, Advances, ReadOn}
 use Rattle.reader.proofs.Settling.{less_room, advanced_both, advanced_on}
 use Rattle.reader.proofs.stepping.moving.advance_quick.Goals as goal
 
@@ -22,20 +22,37 @@ end_known-requires c =
       hinted = subst (λ m. Hinted c.args.text.now c.args.i m) (sym c.if-begin_mark.ensures) c.requires.standing.hinted;
     }
 
+pub begin_again-requires : goal.begin_again-requires
+begin_again-requires c =
+    let same = sym (c.in_default.ensures ∙ c.if-begin_mark.ensures) in
+    record {
+      inside = c.requires.inside;
+      good = subst (λ m. Good c.args.i 8 m) same (less_room c.args.i c.args.machine.now c.requires.standing.good);
+      hinted = subst (λ m. Hinted c.args.text.now c.args.i m) same c.requires.standing.hinted;
+    }
+
+pub returns-then-begin_again-clause-advances : goal.returns-then-begin_again-clause-advances
+returns-then-begin_again-clause-advances c =
+    advanced_on c.args.text.now c.args.i c.args.machine.now c.begin_again.new.machine Mark.Opens c.requires.standing.good
+    (subst (λ m. ReadOn c.args.text.now c.args.i m c.begin_again.new.machine Mark.Opens) (c.in_default.ensures ∙ c.if-begin_mark.ensures) c.if-begin_again.ensures)
+
+pub returns-then-begin_again-clause-kept : goal.returns-then-begin_again-clause-kept
+returns-then-begin_again-clause-kept c = c.if-begin_again.ensures.hinted
+
 pub advance-requires : goal.advance-requires
 advance-requires c =
     record {
       inside = c.requires.inside;
-      good = subst (λ m. Good c.args.i 16 m) (sym (c.in_default.ensures ∙ c.if-begin_mark.ensures)) c.requires.standing.good;
+      good = subst (λ m. Good c.args.i 16 m) (sym (c.if-begin_again.ensures ∙ (c.in_default.ensures ∙ c.if-begin_mark.ensures))) c.requires.standing.good;
     }
 
 pub returns-in_default-clause-advances : goal.returns-in_default-clause-advances
 returns-in_default-clause-advances c =
-    subst (λ m. Advances c.args.text.now c.args.i m c.advance.new.machine c.advance.result) (c.in_default.ensures ∙ c.if-begin_mark.ensures) c.advance.ensures.advances
+    subst (λ m. Advances c.args.text.now c.args.i m c.advance.new.machine c.advance.result) (c.if-begin_again.ensures ∙ (c.in_default.ensures ∙ c.if-begin_mark.ensures)) c.advance.ensures.advances
 
 pub returns-in_default-clause-kept : goal.returns-in_default-clause-kept
 returns-in_default-clause-kept c =
-    c.advance.ensures.kept (subst (λ m. Hinted c.args.text.now c.args.i m) (sym (c.in_default.ensures ∙ c.if-begin_mark.ensures)) c.requires.standing.hinted)
+    c.advance.ensures.kept (subst (λ m. Hinted c.args.text.now c.args.i m) (sym (c.if-begin_again.ensures ∙ (c.in_default.ensures ∙ c.if-begin_mark.ensures))) c.requires.standing.hinted)
 
 pub take_plain-requires : goal.take_plain-requires
 take_plain-requires c = record { inside = c.requires.inside; good = c.in-Some.ensures.settled.good; hinted = c.in-Some.ensures.hinted }
