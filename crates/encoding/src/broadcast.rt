@@ -10,7 +10,10 @@ use crate::shape::Shape;
 fn length_from_last(shape: &Shape, k: usize) -> u32
     ensures { result ≡ slice_index_or (reverse (shape_of shape.now)) k 1 }
 {
-    shape.lengths().iter().rev().nth(k).copied().unwrap_or(1)
+    match shape.rank.checked_sub(k.saturating_add(1)) {
+        Some(at) => shape.lens[at],
+        None => 1,
+    }
 }
 
 // Whether a length goes with another.
