@@ -1,5 +1,5 @@
 -- What is read of the first steps, one after another, until one gives nothing.
-use Rattle.std.proofs.Common.{◌≡◌, ℕ, ◌+◌, List, [], ◌∷◌, length, Some, None, Option, MatchOption, sym, refl, ap, ◌∙◌, arith}
+use Rattle.std.proofs.Common.{◌≡◌, ℕ, ◌+◌, List, [], ◌∷◌, ◌++◌, length, Some, None, Option, MatchOption, sym, refl, ap, ◌∙◌, append_assoc, append-nil, arith}
 use Rattle.std.proofs.lemmas.Iterator.{YieldsList}
 use Rattle.std.proofs.lemmas.Iterator.Consumers.{YieldsList-from_shown}
 use Rattle.std.specs.Fn.{Called}
@@ -64,3 +64,27 @@ slices_read ws i xs e = record { on = λ ps x r h. e ∙ (ap (leading slice_in) 
 pub same_option : {A : Type 0} (r : Option A) → option_map (λ x. x) r ≡ r
 same_option None = refl
 same_option (Some x) = refl
+
+-- a loop over the steps: what was read, and what is still read of the steps that are left
+module _ {C : Type 0} (f : Step → Option C) (ws : List ℕ) (i : ℕ) where
+  abbrev pub ReadSoFar : List C → Steps → Type 0
+  ReadSoFar xs s = leading f (steps_from ws i) ≡ xs ++ leading f (steps_left s)
+
+  left_after : (s t : Steps) (x : Step) → Gives s (Some x) t → steps_left s ≡ x ∷ steps_left t
+  left_after s t x h = from_at s.words.now s.node x h.0 ∙ ap (λ l. x ∷ l) (ap (λ w. steps_from w.now (s.node + 1)) (sym h.1) ∙ ap (λ n. steps_from t.words.now n) (sym h.2))
+
+  pub read_more : (xs ys : List C) (c : C) (x : Step) (s t : Steps) → Gives s (Some x) t → f x ≡ Some c → ys ≡ xs ++ c ∷ [] → ReadSoFar xs s → ReadSoFar ys t
+  unfolding leading one_more
+  read_more xs ys c x s t h e p q =
+      q
+      ∙ (ap (λ l. xs ++ leading f l) (left_after s t x h)
+      ∙ (ap (λ o. xs ++ one_more o (leading f (steps_left t))) e ∙ (sym (append_assoc xs (c ∷ []) (leading f (steps_left t))) ∙ ap (λ l. l ++ leading f (steps_left t)) (sym p))))
+
+  pub read_up_to : (xs : List C) (x : Step) (s t : Steps) → Gives s (Some x) t → f x ≡ None → ReadSoFar xs s → xs ≡ leading f (steps_from ws i)
+  unfolding leading one_more
+  read_up_to xs x s t h e q =
+      sym (q ∙ (ap (λ l. xs ++ leading f l) (left_after s t x h) ∙ (ap (λ o. xs ++ one_more o (leading f (steps_left t))) e ∙ append-nil xs)))
+
+  pub read_all : (xs : List C) (s t : Steps) → Gives s None t → ReadSoFar xs s → xs ≡ leading f (steps_from ws i)
+  unfolding leading
+  read_all xs s t h q = sym (q ∙ (ap (λ l. xs ++ leading f l) (nothing_left _ (omega (arith, length_from s.words.now s.node, h.0))) ∙ append-nil xs))

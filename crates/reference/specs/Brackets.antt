@@ -1,10 +1,34 @@
 -- Behind the brackets of an operation.
-use Rattle.std.specs.Prelude.{◌≡◌, ℕ, ◌≤◌, List}
+use Rattle.std.specs.Prelude.{◌≡◌, ℕ, ◌≤◌, Bool, true, false, List}
 use Rattle.semantics.specs.Parts.{Part}
 use Rattle.semantics.specs.Values.{Expr}
 use Rattle.program.specs.declared.step.Step.{Step}
+use Rattle.program.specs.declared.step.Step.TheVariants.{End, Let, Put, Show, Again, Name, Input, Constant, Count, Each, Both, Choose, Fold, Scan, Shape, Turn, Part as Cut, Join, Rows, Item, Slice}
 use Rattle.program.specs.Spelling.{items, slices, spell}
 use Rattle.program.specs.Standing.{steps_from}
+
+abbrev pub bracketed : Step → Bool
+bracketed End = false
+bracketed (Let k) = false
+bracketed (Put k) = false
+bracketed Show = false
+bracketed (Again n) = false
+bracketed (Name k) = false
+bracketed (Input k) = false
+bracketed (Constant x) = false
+bracketed (Count m) = false
+bracketed (Each k) = false
+bracketed (Both k) = false
+bracketed Choose = false
+bracketed (Fold k x) = false
+bracketed (Scan k x) = false
+bracketed Shape = false
+bracketed Turn = false
+bracketed Cut = false
+bracketed (Join x) = false
+bracketed Rows = false
+bracketed (Item k) = true
+bracketed (Slice s) = true
 
 -- the operand behind items, or slices, that stand at i stands at j
 pub record SkipsBrackets (ws : List ℕ) (i j : ℕ) : Type 0 where

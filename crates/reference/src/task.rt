@@ -5,6 +5,7 @@ ghost use Rattle.encoding.specs.ShapeOf.{shape_of};
 ghost use Rattle.reference.specs.declared.fault.Fault.TheVariants.{Places};
 
 use crate::fault::Fault;
+use crate::made::count_places;
 use encoding::shape::Shape;
 use std::alloc::Global;
 
@@ -24,10 +25,6 @@ impl Task<'_> {
     pub fn take(&self, taken: u64, shape: &Shape) -> Result<u64, Fault>
         ensures { MatchResult result (λ n. (n ≡ taken + size (shape_of shape.now)) × (n ≤ self.now.places)) (λ f. (f ≡ Places) × (self.now.places < taken + size (shape_of shape.now))) }
     {
-        let all = taken.saturating_add(shape.size());
-        if all > self.places {
-            return Err(Fault::Places);
-        }
-        Ok(all)
+        count_places(shape, taken, self.places).ok_or(Fault::Places)
     }
 }

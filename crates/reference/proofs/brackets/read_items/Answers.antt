@@ -1,17 +1,24 @@
-use Rattle.std.proofs.Common.{◌≡◌, vec_items, ap, ◌∙◌, rules}
-use Rattle.std.proofs.lemmas.Iterator.{items_from_collect}
-use Rattle.std.proofs.lemmas.Result.{IfOk-weaker}
-use Rattle.program.specs.Standing.{steps_from}
+use Rattle.std.proofs.Common.{◌++◌, sym, ap, ◌∙◌}
 use Rattle.program.specs.Steps.{steps_left}
 use Rattle.program.specs.Leading.{item_in, leading}
-use Rattle.reference.specs.Brackets.{ReadsItems}
-use Rattle.reference.proofs.Leading.{leading_read, items_read, same_option}
+use Rattle.reference.proofs.Leading.{read_more, read_up_to, read_all, items_read}
 use Rattle.reference.proofs.brackets.read_items.Goals as goal
+
+pub loop-step-init : goal.loop-step-init
+loop-step-init c =
+    ap (λ s. leading item_in (steps_left s)) (sym c.into_iter-step-iterator.ensures.into_iter_gives)
+    ∙ ap (λ l. l ++ leading item_in (steps_left c.into_iter-step-iterator.result)) (sym c.new-list.ensures.items)
+
+pub loop-step-preserved : goal.loop-step-preserved
+loop-step-preserved c =
+    read_more item_in c.args.words.now c.args.node _ _ c.in-Some-item.item c.in-Some.step c.loop-step.step-iterator c.next.new.self c.in-Some.ensures.steps (sym c.item.ensures ∙ c.in-Some-item.is) c.in_ok-push.ensures.items c.loop-step.invariant
+
+pub returns-in_default : goal.returns-in_default
+returns-in_default c =
+    items_read c.args.words.now c.args.node c.loop-step.list.items
+    (read_up_to item_in c.args.words.now c.args.node _ c.in-Some.step c.loop-step.step-iterator c.next.new.self c.in-Some.ensures.steps (sym c.item.ensures ∙ c.in_default.is) c.loop-step.invariant)
 
 pub returns : goal.returns
 returns c =
-    let ws = c.args.words.now in
-    let i = c.args.node in
-    let source = ap steps_left c.map_while-items.ensures.source in
-    IfOk-weaker c.collect.result (λ v. vec_items v ≡ leading item_in (steps_from ws i)) (λ v. ReadsItems ws i (vec_items v)) (λ v e. items_read ws i (vec_items v) e)
-    (items_from_collect _ c.collect.ensures.ran (leading_read _ item_in (λ x. x) (λ p x r q k. same_option r ∙ search rules) c.map_while-items.result (steps_from ws i) source))
+    items_read c.args.words.now c.args.node c.loop-step.list.items
+    (read_all item_in c.args.words.now c.args.node _ c.loop-step.step-iterator c.next.new.self c.in-None.ensures.steps c.loop-step.invariant)

@@ -25,23 +25,23 @@ returns-in_ok-made-in-Zero t c =
 -- ---- one operand
 pub evaluate-requires : goal.evaluate-requires
 evaluate-requires t c =
-    (omega (arith, c.decreases, one_falls c.args.self.now.words.now c.args.self.now.inputs.now c.args.names.now c.args.node c.args.self.now.places c.requires.stands c.in-Some.step c.in-Some.ensures c.skip_brackets-operand.result c.skip_brackets-operand.ensures (sym c.in-One.ensures)), (one_stands c.args.self.now.words.now c.args.self.now.inputs.now c.args.names.now c.args.node c.args.self.now.places c.requires.stands c.in-Some.step c.in-Some.ensures c.skip_brackets-operand.result c.skip_brackets-operand.ensures (sym c.in-One.ensures)))
+    (omega (arith, c.decreases, one_falls c.args.self.now.words.now c.args.self.now.inputs.now c.args.names.now c.args.node c.args.self.now.places c.requires.stands c.in-Some.step c.in-Some.ensures c.skip_brackets-operand.result c.skip_brackets-operand.ensures.skips (sym c.in-One.ensures)), (one_stands c.args.self.now.words.now c.args.self.now.inputs.now c.args.names.now c.args.node c.args.self.now.places c.requires.stands c.in-Some.step c.in-Some.ensures c.skip_brackets-operand.result c.skip_brackets-operand.ensures.skips (sym c.in-One.ensures)))
 
 pub returns-in_err-a-in-One : goal.returns-in_err-a-in-One
 returns-in_err-a-in-One t c =
     exited c.args.self.now.words.now c.args.self.now.inputs.now c.args.names.now c.args.node c.args.self.now.places c.from_residual-in_err-a-in-One.result c.in_err-a-in-One.field-0.0 c.from_residual-in_err-a-in-One.ensures.1
-    (one_stop c.args.self.now.words.now c.args.self.now.inputs.now c.args.names.now c.args.node c.args.self.now.places c.requires.stands c.in-Some.step c.in-Some.ensures c.skip_brackets-operand.result c.skip_brackets-operand.ensures (sym c.in-One.ensures) c.in_err-a-in-One.ensures)
+    (one_stop c.args.self.now.words.now c.args.self.now.inputs.now c.args.names.now c.args.node c.args.self.now.places c.requires.stands c.in-Some.step c.in-Some.ensures c.skip_brackets-operand.result c.skip_brackets-operand.ensures.skips (sym c.in-One.ensures) c.in_err-a-in-One.ensures)
 
 pub returns-in_err-made-in-One : goal.returns-in_err-made-in-One
 returns-in_err-made-in-One t c =
     exited c.args.self.now.words.now c.args.self.now.inputs.now c.args.names.now c.args.node c.args.self.now.places c.from_residual-in_err-made-in-One.result c.in_err-made-in-One.field-0.0 c.from_residual-in_err-made-in-One.ensures.1
-    (one_right c.args.self.now.words.now c.args.self.now.inputs.now c.args.names.now c.args.node c.args.self.now.places c.requires.stands c.in-Some.step c.in-Some.ensures c.skip_brackets-operand.result c.skip_brackets-operand.ensures (sym c.in-One.ensures) c.in_ok-a-in-One.a c.in_ok-a-in-One.ensures _ c.in_err-made-in-One.ensures)
+    (one_right c.args.self.now.words.now c.args.self.now.inputs.now c.args.names.now c.args.node c.args.self.now.places c.requires.stands c.in-Some.step c.in-Some.ensures c.skip_brackets-operand.result c.skip_brackets-operand.ensures.skips (sym c.in-One.ensures) c.in_ok-a-in-One.a c.in_ok-a-in-One.ensures _ c.in_err-made-in-One.ensures)
 
 pub returns-in_ok-made-in-One : goal.returns-in_ok-made-in-One
 returns-in_ok-made-in-One t c =
     evaluated c.args.self.now.words.now c.args.self.now.inputs.now c.args.names.now c.args.node c.args.self.now.places _ c.requires.stands
-    (one_skips c.args.self.now.words.now c.args.self.now.inputs.now c.args.names.now c.args.node c.args.self.now.places c.requires.stands c.in-Some.step c.in-Some.ensures c.skip_brackets-operand.result c.skip_brackets-operand.ensures (sym c.in-One.ensures) c.in_ok-a-in-One.a c.in_ok-a-in-One.ensures)
-    (one_right c.args.self.now.words.now c.args.self.now.inputs.now c.args.names.now c.args.node c.args.self.now.places c.requires.stands c.in-Some.step c.in-Some.ensures c.skip_brackets-operand.result c.skip_brackets-operand.ensures (sym c.in-One.ensures) c.in_ok-a-in-One.a c.in_ok-a-in-One.ensures _ c.in_ok-made-in-One.ensures)
+    (one_skips c.args.self.now.words.now c.args.self.now.inputs.now c.args.names.now c.args.node c.args.self.now.places c.requires.stands c.in-Some.step c.in-Some.ensures c.skip_brackets-operand.result c.skip_brackets-operand.ensures.skips (sym c.in-One.ensures) c.in_ok-a-in-One.a c.in_ok-a-in-One.ensures)
+    (one_right c.args.self.now.words.now c.args.self.now.inputs.now c.args.names.now c.args.node c.args.self.now.places c.requires.stands c.in-Some.step c.in-Some.ensures c.skip_brackets-operand.result c.skip_brackets-operand.ensures.skips (sym c.in-One.ensures) c.in_ok-a-in-One.a c.in_ok-a-in-One.ensures _ c.in_ok-made-in-One.ensures)
 
 -- ---- two operands
 pub evaluate-requires-in-Two : goal.evaluate-requires-in-Two

@@ -27,7 +27,7 @@ returns-in_err-v c =
       skips = IfOk-from_err _ _ c.from_residual-in_err-v.ensures.0;
       right = λ ps e s t h l.
           let is = ap parts_of c.as_slice.ensures.value ∙ c.in_ok-list.ensures.on ps e s h in
-          let r = c.in_err-v.ensures.right e s t (c.skip_brackets-operand.ensures.past_slices ps e s h) l.names in
+          let r = c.in_err-v.ensures.right e s t (c.skip_brackets-operand.ensures.skips.past_slices ps e s h) l.names in
           let V = value_in (sizes c.args.self.now.places) binary64 (inputs_of c.args.self.now.inputs.now) t e in
           went_exit _ _ c.from_residual-in_err-v.result c.in_err-v.field-0.0 c.from_residual-in_err-v.ensures.1
           (put_stop t c.args.state.now l c.args.name (since_is_put t c.args.name ps _ _) (subst (λ qs. Replaces t (is_put t c.args.name qs (get_or t.names c.args.name none) V) c.args.name (Err c.in_err-v.field-0.0)) is r));
@@ -37,10 +37,10 @@ pub returns : goal.returns
 returns c =
     record {
       fits = small_set c.args.state.now.names c.put_cell.new.names c.args.name c.in_ok-v.v.made.array c.in_ok-v.ensures.small c.in-Ok.ensures.1 c.requires.fits;
-      skips = record { on = λ ps e s h. c.in_ok-v.ensures.skips.on e s (c.skip_brackets-operand.ensures.past_slices ps e s h) };
+      skips = record { on = λ ps e s h. c.in_ok-v.ensures.skips.on e s (c.skip_brackets-operand.ensures.skips.past_slices ps e s h) };
       right = λ ps e s t h l.
           let is = ap parts_of c.as_slice.ensures.value ∙ c.in_ok-list.ensures.on ps e s h in
-          let r = c.in_ok-v.ensures.right e s t (c.skip_brackets-operand.ensures.past_slices ps e s h) l.names in
+          let r = c.in_ok-v.ensures.right e s t (c.skip_brackets-operand.ensures.skips.past_slices ps e s h) l.names in
           let V = value_in (sizes c.args.self.now.places) binary64 (inputs_of c.args.self.now.inputs.now) t e in
           put_done t c.args.state.now l c.args.name {v = c.in_ok-v.v} c.put_cell.new.names (subst (λ qs. Replaces t (is_put t c.args.name qs (get_or t.names c.args.name none) V) c.args.name (Ok c.in_ok-v.v)) is r) c.in-Ok.ensures.1;
     }
