@@ -59,6 +59,7 @@ fn find_arity(step: Step) -> Arity
 
 impl Task<'_> {
     // A step without operands.
+    #[inline(never)]
     fn apply_none(&self, names: &Vec<Option<Array>>, step: Step) -> Result<Made, Stop>
         requires leaf { (e : Expr ℕ) × Leaf step e }
         ensures { (p : ℕ) (e : Expr ℕ) → Leaf step e → Right (value (sizes p) binary64 (inputs_of self.now.inputs.now) (cells_of names.now) self.now.places e) result }
