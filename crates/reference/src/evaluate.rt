@@ -6,12 +6,13 @@ ghost use Rattle.semantics.specs.Values.{Expr, Value, on_choose, value};
 ghost use Rattle.numbers.specs.Operations.{binary64};
 ghost use Rattle.encoding.specs.Format.{inputs_of};
 ghost use Rattle.program.specs.Standing.{Stands};
+ghost use Rattle.program.specs.Words.{At};
 ghost use Rattle.reference.specs.ArrayOf.{array_of};
 ghost use Rattle.reference.specs.CellsOf.{cells_of, sizes};
 ghost use Rattle.reference.specs.Operands.{arity_of, Leaf, One as Ones, Two as Twos};
 ghost use Rattle.reference.specs.Right.{Right};
 ghost use Rattle.reference.specs.Evaluation.{Evaluates};
-ghost use Rattle.reference.specs.declared.evaluate.Arity.TheVariants.{Zero, One, Two};
+ghost use Rattle.reference.specs.declared.evaluate.Arity.TheVariants.{Zero, One, Two, Three};
 
 use crate::array::Array;
 use crate::brackets::skip_brackets;
@@ -59,7 +60,6 @@ fn find_arity(step: Step) -> Arity
 
 impl Task<'_> {
     // A step without operands.
-    #[inline(never)]
     fn apply_none(&self, names: &Vec<Option<Array>>, step: Step) -> Result<Made, Stop>
         requires leaf { (e : Expr ℕ) × Leaf step e }
         ensures { (p : ℕ) (e : Expr ℕ) → Leaf step e → Right (value (sizes p) binary64 (inputs_of self.now.inputs.now) (cells_of names.now) self.now.places e) result }
@@ -108,6 +108,86 @@ impl Task<'_> {
         }
     }
 
+    // No operands. No operation is inlined here and below: each level of a nest would take its locals too.
+    #[inline(never)]
+    fn evaluate_none(&self, names: &Vec<Option<Array>>, node: usize, step: Step) -> Result<Valued, Stop>
+        requires stands { Stands self.now.words.now node }
+        requires at { At self.now.words.now node step }
+        requires leaf { arity_of step ≡ Zero }
+        ensures { Evaluates self.now.words.now self.now.inputs.now names.now node self.now.places result }
+    {
+        let made = self.apply_none(names, step)?;
+        Ok(Valued { made, next: node + 1 })
+    }
+
+    // One operand, which stands behind its brackets.
+    #[cycle(evaluation)]
+    #[inline(never)]
+    fn evaluate_one(&self, names: &Vec<Option<Array>>, node: usize, step: Step) -> Result<Valued, Stop>
+        requires stands { Stands self.now.words.now node }
+        requires at { At self.now.words.now node step }
+        requires single { arity_of step ≡ One }
+        ensures { Evaluates self.now.words.now self.now.inputs.now names.now node self.now.places result }
+    {
+        let behind = node + 1;
+        let operand = skip_brackets(self.words, behind);
+        let a = self.evaluate(names, operand)?;
+        let made = self.apply_one(behind, step, &a.made.array, a.made.count)?;
+        Ok(Valued { made, next: a.next })
+    }
+
+    // Two operands.
+    #[cycle(evaluation)]
+    #[inline(never)]
+    fn evaluate_two(&self, names: &Vec<Option<Array>>, node: usize, step: Step) -> Result<Valued, Stop>
+        requires stands { Stands self.now.words.now node }
+        requires at { At self.now.words.now node step }
+        requires double { arity_of step ≡ Two }
+        ensures { Evaluates self.now.words.now self.now.inputs.now names.now node self.now.places result }
+    {
+        let a = self.evaluate(names, node + 1)?;
+        let after = Task {
+            heap: self.heap,
+            words: self.words,
+            inputs: self.inputs,
+            places: self.places - a.made.count,
+        };
+        let b = after.evaluate(names, a.next)?;
+        let taken = a.made.count + b.made.count;
+        let made = self.apply_two(step, &a.made.array, &b.made.array, taken)?;
+        Ok(Valued { made, next: b.next })
+    }
+
+    // Three operands.
+    #[cycle(evaluation)]
+    #[inline(never)]
+    fn evaluate_three(&self, names: &Vec<Option<Array>>, node: usize, step: Step) -> Result<Valued, Stop>
+        requires stands { Stands self.now.words.now node }
+        requires at { At self.now.words.now node step }
+        requires triple { arity_of step ≡ Three }
+        ensures { Evaluates self.now.words.now self.now.inputs.now names.now node self.now.places result }
+    {
+        let a = self.evaluate(names, node + 1)?;
+        let after = Task {
+            heap: self.heap,
+            words: self.words,
+            inputs: self.inputs,
+            places: self.places - a.made.count,
+        };
+        let b = after.evaluate(names, a.next)?;
+        let last = Task {
+            heap: self.heap,
+            words: self.words,
+            inputs: self.inputs,
+            places: self.places - a.made.count - b.made.count,
+        };
+        let d = last.evaluate(names, b.next)?;
+        let taken = a.made.count + b.made.count + d.made.count;
+        let made = self.apply_choose(&a.made.array, &b.made.array, &d.made.array, taken)?;
+        Ok(Valued { made, next: d.next })
+    }
+
+    #[cycle(evaluation)]
     pub fn evaluate(&self, names: &Vec<Option<Array>>, node: usize) -> Result<Valued, Stop>
         requires stands { Stands self.now.words.now node }
         ensures { Evaluates self.now.words.now self.now.inputs.now names.now node self.now.places result }
@@ -115,51 +195,11 @@ impl Task<'_> {
         let Some(step) = step_at(self.words, node) else {
             return unreachable();
         };
-        let behind = node + 1;
         match find_arity(step) {
-            Arity::Zero => {
-                let made = self.apply_none(names, step)?;
-                Ok(Valued { made, next: behind })
-            }
-            Arity::One => {
-                let operand = skip_brackets(self.words, behind);
-                let a = self.evaluate(names, operand)?;
-                let made = self.apply_one(behind, step, &a.made.array, a.made.count)?;
-                Ok(Valued { made, next: a.next })
-            }
-            Arity::Two => {
-                let a = self.evaluate(names, behind)?;
-                let after = Task {
-                    heap: self.heap,
-                    words: self.words,
-                    inputs: self.inputs,
-                    places: self.places - a.made.count,
-                };
-                let b = after.evaluate(names, a.next)?;
-                let taken = a.made.count + b.made.count;
-                let made = self.apply_two(step, &a.made.array, &b.made.array, taken)?;
-                Ok(Valued { made, next: b.next })
-            }
-            Arity::Three => {
-                let a = self.evaluate(names, behind)?;
-                let after = Task {
-                    heap: self.heap,
-                    words: self.words,
-                    inputs: self.inputs,
-                    places: self.places - a.made.count,
-                };
-                let b = after.evaluate(names, a.next)?;
-                let last = Task {
-                    heap: self.heap,
-                    words: self.words,
-                    inputs: self.inputs,
-                    places: self.places - a.made.count - b.made.count,
-                };
-                let d = last.evaluate(names, b.next)?;
-                let taken = a.made.count + b.made.count + d.made.count;
-                let made = self.apply_choose(&a.made.array, &b.made.array, &d.made.array, taken)?;
-                Ok(Valued { made, next: d.next })
-            }
+            Arity::Zero => self.evaluate_none(names, node, step),
+            Arity::One => self.evaluate_one(names, node, step),
+            Arity::Two => self.evaluate_two(names, node, step),
+            Arity::Three => self.evaluate_three(names, node, step),
         }
     }
 }
