@@ -60,6 +60,7 @@ impl Task<'_> {
         Ok(Made { array, count })
     }
 
+    #[inline(never)]
     pub fn apply_choose<'a>(
         &self,
         test: &'a Array,

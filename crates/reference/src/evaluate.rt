@@ -74,6 +74,7 @@ impl Task<'_> {
     }
 
     // A step with one operand, whose array is there; the items and slices of its brackets stand from `behind` on.
+    #[inline(never)]
     fn apply_one(&self, behind: usize, step: Step, array: &Array, taken: u64) -> Result<Made, Stop>
         requires single { arity_of step ≡ One }
         ensures { (p : ℕ) (e o : Expr ℕ) (f : Meant ℕ → ℕ → Value ℕ) → Ones self.now.words.now behind self.now.places p step e o f → Right (f (array_of array.now) taken) result }
@@ -90,6 +91,7 @@ impl Task<'_> {
     }
 
     // A step with two operands, whose arrays are there.
+    #[inline(never)]
     fn apply_two<'a>(
         &self,
         step: Step,
