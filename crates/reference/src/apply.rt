@@ -60,6 +60,7 @@ impl Task<'_> {
         Ok(Made { array, count })
     }
 
+    // Not inlined, as `apply_one` is not.
     #[inline(never)]
     pub fn apply_choose<'a>(
         &self,

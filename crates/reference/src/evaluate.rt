@@ -74,6 +74,7 @@ impl Task<'_> {
     }
 
     // A step with one operand, whose array is there; the items and slices of its brackets stand from `behind` on.
+    // Not inlined, as `evaluate_one` and `apply_choose` are not.
     #[inline(never)]
     fn apply_one(&self, behind: usize, step: Step, array: &Array, taken: u64) -> Result<Made, Stop>
         requires single { arity_of step ≡ One }
@@ -90,7 +91,7 @@ impl Task<'_> {
         }
     }
 
-    // A step with two operands, whose arrays are there.
+    // A step with two operands, whose arrays are there. Not inlined, as `apply_one` is not.
     #[inline(never)]
     fn apply_two<'a>(
         &self,
@@ -110,22 +111,36 @@ impl Task<'_> {
         }
     }
 
-    // No operands. No operation is inlined here and below: each level of a nest would take its locals too.
+    // No operands. Not inlined, as `evaluate_one` is not.
     #[inline(never)]
-    fn evaluate_none(&self, names: &Vec<Option<Array>>, node: usize, step: Step) -> Result<Valued, Stop>
+    fn evaluate_none(
+        &self,
+        names: &Vec<Option<Array>>,
+        node: usize,
+        step: Step,
+    ) -> Result<Valued, Stop>
         requires stands { Stands self.now.words.now node }
         requires at { At self.now.words.now node step }
         requires leaf { arity_of step ≡ Zero }
         ensures { Evaluates self.now.words.now self.now.inputs.now names.now node self.now.places result }
     {
         let made = self.apply_none(names, step)?;
-        Ok(Valued { made, next: node + 1 })
+        Ok(Valued {
+            made,
+            next: node + 1,
+        })
     }
 
-    // One operand, which stands behind its brackets.
+    // One operand, which stands behind its brackets. Not inlined, nor are the operations: else each level of a nest takes
+    // the locals of all of them, and a deep nest three times the stack.
     #[cycle(evaluation)]
     #[inline(never)]
-    fn evaluate_one(&self, names: &Vec<Option<Array>>, node: usize, step: Step) -> Result<Valued, Stop>
+    fn evaluate_one(
+        &self,
+        names: &Vec<Option<Array>>,
+        node: usize,
+        step: Step,
+    ) -> Result<Valued, Stop>
         requires stands { Stands self.now.words.now node }
         requires at { At self.now.words.now node step }
         requires single { arity_of step ≡ One }
@@ -141,7 +156,12 @@ impl Task<'_> {
     // Two operands.
     #[cycle(evaluation)]
     #[inline(never)]
-    fn evaluate_two(&self, names: &Vec<Option<Array>>, node: usize, step: Step) -> Result<Valued, Stop>
+    fn evaluate_two(
+        &self,
+        names: &Vec<Option<Array>>,
+        node: usize,
+        step: Step,
+    ) -> Result<Valued, Stop>
         requires stands { Stands self.now.words.now node }
         requires at { At self.now.words.now node step }
         requires double { arity_of step ≡ Two }
@@ -163,7 +183,12 @@ impl Task<'_> {
     // Three operands.
     #[cycle(evaluation)]
     #[inline(never)]
-    fn evaluate_three(&self, names: &Vec<Option<Array>>, node: usize, step: Step) -> Result<Valued, Stop>
+    fn evaluate_three(
+        &self,
+        names: &Vec<Option<Array>>,
+        node: usize,
+        step: Step,
+    ) -> Result<Valued, Stop>
         requires stands { Stands self.now.words.now node }
         requires at { At self.now.words.now node step }
         requires triple { arity_of step ≡ Three }
