@@ -1,8 +1,8 @@
 -- Rows looked up one number after the other.
-use Rattle.std.proofs.Common.{◌≡◌, ℕ, zero, suc, ◌+◌, ◌<◌, ◌≤◌, true, ◌&&◌, ltb, List, [], ◌∷◌, ◌++◌, length, get_or, drop, vec_items, sym, ap, ◌∙◌, subst, inl, inr, add-one, arith}
+use Rattle.std.proofs.Common.{◌≡◌, ℕ, zero, suc, ◌+◌, ◌-◌, ◌<◌, ◌≤◌, true, false, ◌&&◌, ltb, List, [], ◌∷◌, ◌++◌, length, get_or, drop, vec_items, sym, ap, ◌∙◌, subst, inl, inr, add-one, arith}
 use Rattle.std.specs.List.{list_all}
 use Rattle.std.proofs.lemmas.List.{drop_more, drop_all}
-use Rattle.std.proofs.lemmas.Bool.{and_parts, ltb-true, cases_lt}
+use Rattle.std.proofs.lemmas.Bool.{and_parts, ltb-true, lt-ltb, le-ltb, cases_lt}
 use Rattle.semantics.specs.Shapes.{size, flat, unflat, up_to}
 use Rattle.semantics.specs.Arrays as meaning
 use Rattle.semantics.specs.Arrays.{Numbers, all_below, rows_there}
@@ -15,6 +15,33 @@ use Rattle.reference.specs.ArrayOf.{array_of}
 -- the number of a place, by its number
 pub at_number : (a : Array) (n : ℕ) → n < size (shape_of a.shape) → (array_of a).at (unflat (shape_of a.shape) n) ≡ get_or (vec_items a.numbers) n 0
 at_number a n h = ap (λ m. get_or (vec_items a.numbers) m 0) (flat_unflat (shape_of a.shape) n h)
+
+-- whether the numbers from the nth on are below d, one after another
+module _ (z : Numbers ℕ) (b : Array) (d n count : ℕ) (counted : count ≡ size (shape_of b.shape)) where
+  below_step : n < count → all_below z (array_of b) d (up_to n (count - n)) ≡ (ltb (z.index (get_or (vec_items b.numbers) n 0)) d && all_below z (array_of b) d (up_to (n + 1) (count - (n + 1))))
+  unfolding all_below up_to
+  below_step h =
+      let one : count - n ≡ suc (count - (n + 1)) = omega arith in
+      ap (λ m. all_below z (array_of b) d (up_to n m)) one
+      ∙ (ap (λ x. ltb (z.index x) d && all_below z (array_of b) d (up_to (suc n) (count - (n + 1)))) (at_number b n (omega arith))
+      ∙ ap (λ m. ltb (z.index (get_or (vec_items b.numbers) n 0)) d && all_below z (array_of b) d (up_to m (count - (n + 1)))) (sym (add-one n)))
+
+  pub below_more : n < count → z.index (get_or (vec_items b.numbers) n 0) < d → all_below z (array_of b) d (up_to n (count - n)) ≡ all_below z (array_of b) d (up_to (n + 1) (count - (n + 1)))
+  below_more h l = below_step h ∙ ap (λ t. t && all_below z (array_of b) d (up_to (n + 1) (count - (n + 1)))) (lt-ltb _ d l)
+
+  pub below_none : n < count → d ≤ z.index (get_or (vec_items b.numbers) n 0) → all_below z (array_of b) d (up_to n (count - n)) ≡ false
+  below_none h l = below_step h ∙ ap (λ t. t && all_below z (array_of b) d (up_to (n + 1) (count - (n + 1)))) (le-ltb _ d l)
+
+  pub below_end : count ≤ n → all_below z (array_of b) d (up_to n (count - n)) ≡ true
+  unfolding all_below up_to
+  below_end h = let none : count - n ≡ 0 = omega arith in ap (λ m. all_below z (array_of b) d (up_to n m)) none
+
+  pub below_all : n ≡ 0 → (a : Array) → d ≡ get_or (shape_of a.shape) 0 0 → all_below z (array_of b) d (up_to n (count - n)) ≡ rows_there z (array_of a) (array_of b)
+  unfolding rows_there
+  below_all none a e =
+      let all : count - n ≡ size (shape_of b.shape) = omega arith in
+      ap (λ m. all_below z (array_of b) d (up_to m (count - n))) none
+      ∙ (ap (λ m. all_below z (array_of b) d (up_to 0 m)) all ∙ ap (λ x. all_below z (array_of b) x (up_to 0 (size (shape_of b.shape)))) e)
 
 below_at : (z : Numbers ℕ) (a : meaning.Array ℕ) (d i m n : ℕ) → all_below z a d (up_to i m) ≡ true → i ≤ n → n < i + m → z.index (a.at (unflat a.shape n)) < d
 unfolding all_below up_to

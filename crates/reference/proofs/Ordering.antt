@@ -1,10 +1,41 @@
 -- Orders of axes, and shapes that are the same, entry by entry.
-use Rattle.std.proofs.Common.{◌≡◌, ℕ, suc, ◌+◌, ◌≤◌, Bool, true, false, cond, not, ltb, Some, None, inl, inr, eqb, List, [], ◌∷◌, length, sym, refl, ap, ◌∙◌, arith}
+use Rattle.std.proofs.Common.{◌≡◌, ℕ, suc, ◌+◌, ◌<◌, ◌≤◌, Bool, true, false, ◌||◌, cond, not, ltb, Some, None, inl, inr, eqb, List, [], ◌∷◌, length, get_or, drop, sym, refl, ap, ◌∙◌, arith}
 use Rattle.std.specs.List.{position, position_or_len}
 use Rattle.std.specs.Option.{unwrap_or}
+use Rattle.std.proofs.lemmas.List.{drop_more, drop_all}
 use Rattle.std.proofs.lemmas.Bool.{eq-eqb, ne_eqb, cases_eq, cases_lt, lt-ltb, le-ltb}
 use Rattle.semantics.specs.Shapes.{pick}
-use Rattle.semantics.specs.Orders.{where_in}
+use Rattle.semantics.specs.Orders.{among, where_in}
+
+-- ---- an axis looked for from a place on
+module _ (x : ℕ) (os : List ℕ) (k : ℕ) where
+  among_drop : k < length os → among x (drop k os) ≡ (eqb x (get_or os k 0) || among x (drop (k + 1) os))
+  unfolding among
+  among_drop l = ap (among x) (drop_more os k 0 l)
+
+  pub among_here : k < length os → get_or os k 0 ≡ x → among x (drop k os) ≡ true
+  among_here l e = among_drop l ∙ ap (λ b. b || among x (drop (k + 1) os)) (eq-eqb x (get_or os k 0) (sym e))
+
+  pub among_later : k < length os → (get_or os k 0 ≡ x → ⊥) → among x (drop k os) ≡ among x (drop (k + 1) os)
+  among_later l n = among_drop l ∙ ap (λ b. b || among x (drop (k + 1) os)) (ne_eqb x (get_or os k 0) (λ e. n (sym e)))
+
+  pub among_end : length os ≤ k → among x (drop k os) ≡ false
+  unfolding among
+  among_end l = ap (among x) (drop_all k os l)
+
+  where_drop : k < length os → where_in x (drop k os) ≡ pick (eqb x (get_or os k 0)) 0 (suc (where_in x (drop (k + 1) os)))
+  unfolding where_in
+  where_drop l = ap (where_in x) (drop_more os k 0 l)
+
+  pub where_here : k < length os → get_or os k 0 ≡ x → where_in x (drop k os) ≡ 0
+  where_here l e = where_drop l ∙ ap (λ b. pick b 0 (suc (where_in x (drop (k + 1) os)))) (eq-eqb x (get_or os k 0) (sym e))
+
+  pub where_later : k < length os → (get_or os k 0 ≡ x → ⊥) → where_in x (drop k os) ≡ suc (where_in x (drop (k + 1) os))
+  where_later l n = where_drop l ∙ ap (λ b. pick b 0 (suc (where_in x (drop (k + 1) os)))) (ne_eqb x (get_or os k 0) (λ e. n (sym e)))
+
+  pub where_end : length os ≤ k → where_in x (drop k os) ≡ 0
+  unfolding where_in
+  where_end l = ap (where_in x) (drop_all k os l)
 
 -- ---- the library's look-ups
 eqb_turned : (x y : ℕ) → eqb x y ≡ eqb y x

@@ -19,6 +19,16 @@ parts_fit_length (p ∷ ps) (d ∷ s) e = ap suc (parts_fit_length ps s (and_par
 pub slices_length : (xs : List Slice) (s : List ℕ) → parts_fit (parts_of xs) s ≡ true → length xs ≡ length s
 slices_length xs s e = sym (length-map xs part_of) ∙ parts_fit_length (parts_of xs) s e
 
+module _ (d : Slice) (xs : List Slice) (s : List ℕ) (k : ℕ) where
+  pub fit_drop : k < length xs → k < length s →
+      parts_fit (parts_of (drop k xs)) (drop k s) ≡ (part_fits (part_of (get_or xs k d)) (get_or s k 0) && parts_fit (parts_of (drop (k + 1) xs)) (drop (k + 1) s))
+  unfolding parts_fit
+  fit_drop l m = ap (λ ys. parts_fit (parts_of ys) (drop k s)) (drop_more xs k d l) ∙ ap (λ t. parts_fit (parts_of (get_or xs k d ∷ drop (k + 1) xs)) t) (drop_more s k 0 m)
+
+  pub fit_end : length xs ≤ k → length s ≤ k → parts_fit (parts_of (drop k xs)) (drop k s) ≡ true
+  unfolding parts_fit
+  fit_end l m = ap (λ ys. parts_fit (parts_of ys) (drop k s)) (drop_all k xs l) ∙ ap (λ t. parts_fit [] t) (drop_all k s m)
+
 pub fits_at : (d : Slice) (xs : List Slice) (s : List ℕ) (k : ℕ) → parts_fit (parts_of xs) s ≡ true → k < length s → part_fits (part_of (get_or xs k d)) (get_or s k 0) ≡ true
 unfolding parts_fit
 fits_at d [] [] k e l = absurd (omega arith)
