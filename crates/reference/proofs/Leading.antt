@@ -21,14 +21,14 @@ nothing_left : (l : List Step) → length l ≡ 0 → l ≡ []
 nothing_left [] e = refl
 nothing_left (s ∷ t) e = absurd (omega arith)
 
+next_left : (s t : Steps) (x : Step) → Gives s (Some x) t → steps_left s ≡ x ∷ steps_left t
+next_left s t x h = from_at s.words.now s.node x h.0 ∙ ap (λ l. x ∷ l) (ap (λ w. steps_from w.now (s.node + 1)) (sym h.1) ∙ ap (λ n. steps_from t.words.now n) (sym h.2))
+
 module _ {F B C : Type 0} (g : Mut F (Step × Unit {0}) (Option B)) (f : Step → Option C) (v : B → C)
     (reads : (p : F) (x : Step) (r : Option B) (q : F) → Called g p (x, tt) r q → option_map v r ≡ f x) where
   -- what is still read
   abbrev left : MapWhile Steps F → List C
   left s = leading f (steps_left (map_while_source s))
-
-  next_left : (s t : Steps) (x : Step) → Gives s (Some x) t → steps_left s ≡ x ∷ steps_left t
-  next_left s t x h = from_at s.words.now s.node x h.0 ∙ ap (λ l. x ∷ l) (ap (λ w. steps_from w.now (s.node + 1)) (sym h.1) ∙ ap (λ n. steps_from t.words.now n) (sym h.2))
 
   at_end : (s t : MapWhile Steps F) (o : Option Step) → Gives (map_while_source s) o (map_while_source t)
       → MatchOption o ((◌≡◌ {A = Option B} None None) × (map_while_callee t ≡ map_while_callee s)) (λ x. Called g (map_while_callee s) (x, tt) None (map_while_callee t)) → left s ≡ []
@@ -70,20 +70,17 @@ module _ {C : Type 0} (f : Step → Option C) (ws : List ℕ) (i : ℕ) where
   abbrev pub ReadSoFar : List C → Steps → Type 0
   ReadSoFar xs s = leading f (steps_from ws i) ≡ xs ++ leading f (steps_left s)
 
-  left_after : (s t : Steps) (x : Step) → Gives s (Some x) t → steps_left s ≡ x ∷ steps_left t
-  left_after s t x h = from_at s.words.now s.node x h.0 ∙ ap (λ l. x ∷ l) (ap (λ w. steps_from w.now (s.node + 1)) (sym h.1) ∙ ap (λ n. steps_from t.words.now n) (sym h.2))
-
   pub read_more : (xs ys : List C) (c : C) (x : Step) (s t : Steps) → Gives s (Some x) t → f x ≡ Some c → ys ≡ xs ++ c ∷ [] → ReadSoFar xs s → ReadSoFar ys t
   unfolding leading one_more
   read_more xs ys c x s t h e p q =
       q
-      ∙ (ap (λ l. xs ++ leading f l) (left_after s t x h)
+      ∙ (ap (λ l. xs ++ leading f l) (next_left s t x h)
       ∙ (ap (λ o. xs ++ one_more o (leading f (steps_left t))) e ∙ (sym (append_assoc xs (c ∷ []) (leading f (steps_left t))) ∙ ap (λ l. l ++ leading f (steps_left t)) (sym p))))
 
   pub read_up_to : (xs : List C) (x : Step) (s t : Steps) → Gives s (Some x) t → f x ≡ None → ReadSoFar xs s → xs ≡ leading f (steps_from ws i)
   unfolding leading one_more
   read_up_to xs x s t h e q =
-      sym (q ∙ (ap (λ l. xs ++ leading f l) (left_after s t x h) ∙ (ap (λ o. xs ++ one_more o (leading f (steps_left t))) e ∙ append-nil xs)))
+      sym (q ∙ (ap (λ l. xs ++ leading f l) (next_left s t x h) ∙ (ap (λ o. xs ++ one_more o (leading f (steps_left t))) e ∙ append-nil xs)))
 
   pub read_all : (xs : List C) (s t : Steps) → Gives s None t → ReadSoFar xs s → xs ≡ leading f (steps_from ws i)
   unfolding leading
